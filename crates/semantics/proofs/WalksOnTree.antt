@@ -1,0 +1,181 @@
+-- What a cycle and the entering of node 0 leave, said of the flat lists alone: from lists that are well formed along
+-- the tree, a cycle's walks come to the same lists in any order of the entries, and these are well formed along the
+-- tree.
+use mathlib.Core.Path.{_≡_, refl, sym, ap, _∙_}
+use mathlib.Core.Bool.{Bool, true, false, cond, _||_}
+use mathlib.Core.List.{List, [], foldl}
+use Prim.Native.Nat.{ℕ, zero, suc}
+use native.Mathlib.Nat.{add-zero, zero-add}
+use lib.Dec.{eqb}
+use lib.ListN.{length, getD, replicate, length-replicate}
+use Rattle.semantics.specs.Tree.{Stmt, Stmts}
+use Rattle.semantics.specs.Tree.Stmt.{leaf, seq, par, ife, whl}
+use Rattle.semantics.specs.Tree.Stmts.{nil, cons}
+use Rattle.semantics.specs.State.{marked}
+use Rattle.semantics.specs.Walk.{Walk, walkOf, enter}
+use Rattle.semantics.proofs.CrossOut.{crossOut}
+use Rattle.semantics.proofs.Positions.{endOf, Placed, LeafOf, number, unwind, framesAt}
+use Rattle.semantics.proofs.TreeWellFormed.{live, anyLive, liveCount, treeWellFormed, inTurnWellFormed}
+use Rattle.semantics.proofs.TreeWellFormed.{eachWellFormed}
+use Rattle.semantics.proofs.TreeState.{StateOf, Consistent, Quiet}
+use Rattle.semantics.proofs.TreeState.Cell.{off, due}
+use Rattle.semantics.proofs.TreeWalk.{Step, enterTree}
+use Rattle.semantics.proofs.TreeInvariant.{enter-keeps}
+use Rattle.semantics.proofs.FlatLists.{Column, leafWord, layOut, layOut-length}
+use Rattle.semantics.proofs.FlatLists.Column.{inMarks, inCounts}
+use Rattle.semantics.proofs.EnterOnTree.{outcome, enter-on-tree}
+use Rattle.semantics.proofs.ReadBack.{Reads, ReadsIn, layOut-reads, reads-layOut}
+use Rattle.semantics.proofs.AnyOrder.{alone, writeAll, Tracks, visitNode, walks-any-order, walks-end}
+use Rattle.semantics.proofs.Load.{load, loadIn, load-live, load-due, load-keeps, load-leaf, written-wellFormed}
+
+-- n marks and n counts, well formed along the tree
+pub record FormedOn (t : Stmt) (n : ℕ) (marks counts : List ℕ) : Type 0 where
+  pub marksLength : length marks ≡ n
+  pub countsLength : length counts ≡ n
+  pub wellFormed : treeWellFormed marks counts t ≡ true
+
+abbrev pub FormedWalk : Stmt → ℕ → Walk → Type 0
+FormedWalk t n w = FormedOn t n (w .marks) (w .counts)
+
+-- all n marks cleared
+abbrev pub clearedWith : ℕ → List ℕ → Walk
+clearedWith n counts = record { marks = replicate n 0; counts = counts; looped = false }
+
+-- ---- lists of zeros
+zeros-at : (n i : ℕ) → getD {A = ℕ} (replicate n 0) i 0 ≡ 0
+zeros-at zero i = refl
+zeros-at (suc n) zero = refl
+zeros-at (suc n) (suc i) = zeros-at n i
+
+cleared-word : (b : Bool) → leafWord inMarks (cond b due off) ≡ 0
+cleared-word true = refl
+cleared-word false = refl
+
+module _ (zeros : List ℕ) (none : (i : ℕ) → getD zeros i 0 ≡ 0) where
+  -- they read as the marks of any loaded state, since all marks are cleared
+  module _ (marks counts : List ℕ) where
+    mutual
+      unfolding load
+
+      cleared-reads : (t : Stmt) → Reads inMarks zeros t (load marks counts due t)
+      cleared-reads (leaf i) = none i ∙ sym (cleared-word (marked marks i))
+      cleared-reads (seq i ks) = (none i, cleared-readsIn ks)
+      cleared-reads (par i ks) = (none i, cleared-readsIn ks)
+      cleared-reads (ife i e ys ns) = (none i, cleared-readsIn ys, cleared-readsIn ns)
+      cleared-reads (whl i e ks) = (none i, cleared-readsIn ks)
+
+      cleared-readsIn : (ks : Stmts) → ReadsIn inMarks zeros ks (loadIn marks counts due ks)
+      cleared-readsIn nil = tt
+      cleared-readsIn (cons k ks) = (cleared-reads k, cleared-readsIn ks)
+
+  -- and with no mark and no count a state is well formed
+  mutual
+    unfolding live
+
+    blank-live : (t : Stmt) → live zeros t ≡ false
+    blank-live (leaf i) = ap (λ (m : ℕ). eqb m 1) (none i)
+    blank-live (seq i ks) = blank-anyLive ks
+    blank-live (par i ks) = blank-anyLive ks
+    blank-live (ife i e ys ns) = λ j. blank-anyLive ys j || blank-anyLive ns j
+    blank-live (whl i e ks) = blank-anyLive ks
+
+    blank-anyLive : (ks : Stmts) → anyLive zeros ks ≡ false
+    blank-anyLive nil = refl
+    blank-anyLive (cons k ks) = λ j. blank-live k j || blank-anyLive ks j
+
+  blank-count : (ks : Stmts) → liveCount zeros ks ≡ 0
+  unfolding liveCount
+  blank-count nil = refl
+  blank-count (cons k ks) = rw (blank-live k) (blank-count ks)
+
+  mutual
+    unfolding treeWellFormed
+
+    blank-wellFormed : (t : Stmt) → treeWellFormed zeros zeros t ≡ true
+    blank-wellFormed (leaf i) = rw (none i)
+    blank-wellFormed (seq i ks) = rw (none i) (blank-inTurn ks)
+    blank-wellFormed (par i ks) = rw (none i, blank-count ks) (blank-each ks)
+    blank-wellFormed (ife i e ys ns) = rw (none i, blank-inTurn ys, blank-inTurn ns, blank-anyLive ys)
+    blank-wellFormed (whl i e ks) = rw (none i) (blank-inTurn ks)
+
+    blank-inTurn : (ks : Stmts) → inTurnWellFormed zeros zeros ks ≡ true
+    blank-inTurn nil = refl
+    blank-inTurn (cons k ks) = rw (blank-wellFormed k, blank-inTurn ks, blank-live k)
+
+    blank-each : (ks : Stmts) → eachWellFormed zeros zeros ks ≡ true
+    blank-each nil = refl
+    blank-each (cons k ks) = rw (blank-wellFormed k) (blank-each ks)
+
+walkOf-outcome : (d : Bool) (w : Walk) → walkOf (outcome d w) ≡ w
+walkOf-outcome true w = refl
+walkOf-outcome false w = refl
+
+-- ---- lists and tree states
+module _ (t : Stmt) (n : ℕ) (placed : Placed t 0) (size : endOf t 0 ≡ n) where
+  -- well-formed lists, with the marks cleared, are the loaded state written out
+  cleared-written : (marks counts : List ℕ) → FormedOn t n marks counts
+      → clearedWith n counts ≡ writeAll t (load marks counts due t) false
+  cleared-written marks counts f =
+      let cleared = cleared-reads _ (zeros-at n) marks counts t in
+      let counted = load-keeps marks counts t (f .wellFormed) .countsRead in
+      let m = reads-layOut inMarks (replicate n 0) t _ placed cleared (length-replicate n 0 ∙ sym size) in
+      let c = reads-layOut inCounts counts t _ placed counted (f .countsLength ∙ sym size) in
+      λ i. record { marks = m i; counts = c i; looped = false }
+
+  cleared-tracks : (marks counts : List ℕ) → FormedOn t n marks counts → Tracks t marks (clearedWith n counts)
+  cleared-tracks marks counts f =
+      record {
+        state = load marks counts due t;
+        looped = false;
+        written = cleared-written marks counts f;
+        consistent = load-keeps marks counts t (f .wellFormed) .consistent;
+        due = load-due marks counts t;
+        leaves = load-leaf marks counts t (f .wellFormed) placed (f .marksLength ∙ sym size);
+      }
+
+  -- a consistent state with nothing due, written out, is well formed
+  written-formed : (s : StateOf t) (z : Bool) → Consistent t s → Quiet t s → FormedWalk t n (writeAll t s z)
+  written-formed s z g q =
+      record {
+        marksLength = sized inMarks;
+        countsLength = sized inCounts;
+        wellFormed = written-wellFormed _ _ t s (reads inMarks) (reads inCounts) g q;
+      }
+    where
+      sized : (c : Column) → length (layOut c t s []) ≡ n
+      sized c = sym (add-zero _) ∙ layOut-length c t s [] 0 ∙ zero-add _ ∙ size
+
+      reads : (c : Column) → Reads c (layOut c t s []) t s
+      reads c = layOut-reads c t s 0 [] [] placed refl
+
+  -- "begin .. writes those two from entering node 0": what it writes is well formed
+  pub begin-formed : (holds : ℕ → Bool) → FormedWalk t n (walkOf (enter holds t (clearedWith n (replicate n 0))))
+  begin-formed holds =
+      let zeros : List ℕ = replicate n 0 in
+      let wf = blank-wellFormed zeros (zeros-at n) t in
+      let sized = length-replicate {A = ℕ} n 0 in
+      let f : FormedOn t n zeros zeros = record { marksLength = sized; countsLength = sized; wellFormed = wf } in
+      let s = load zeros zeros due t in
+      let r : Step (StateOf t) = enterTree holds t s in
+      let idle = load-live zeros zeros t ∙ blank-live zeros (zeros-at n) t in
+      let k = enter-keeps holds t s (load-keeps zeros zeros t wf .consistent) idle in
+      let e = enter-on-tree holds t s 0 alone placed (λ c. refl) false in
+      rw (cleared-written zeros zeros f, e, walkOf-outcome (r .done))
+      (written-formed (r .state) (r .looped) (k .consistent) (k .quiet))
+
+  -- ---- the walks of a cycle, where leaving a leaf goes by the frames above it
+  module _ (holds waits : ℕ → Bool) (leaveNode : ℕ → Walk → Walk)
+      (by-frames : (x : LeafOf t) (w : Walk) → leaveNode (number t x) w ≡ unwind holds (framesAt t x []) w)
+      (marks counts : List ℕ) (f : FormedOn t n marks counts) where
+    pub cycle-any-order : (es fs : List ℕ) → crossOut es marks ≡ true → crossOut fs marks ≡ true
+        → foldl (visitNode waits leaveNode) (clearedWith n counts) es
+        ≡ foldl (visitNode waits leaveNode) (clearedWith n counts) fs
+    cycle-any-order es fs =
+        walks-any-order t placed holds waits leaveNode by-frames es fs marks _ (cleared-tracks marks counts f)
+
+    pub cycle-formed : (es : List ℕ) → crossOut es marks ≡ true
+        → FormedWalk t n (foldl (visitNode waits leaveNode) (clearedWith n counts) es)
+    cycle-formed es o =
+        let k = cleared-tracks marks counts f in
+        let (s, z, e, g, q) = walks-end t placed holds waits leaveNode by-frames es marks _ k o in
+        rw e (written-formed s z g q)

@@ -1,0 +1,15 @@
+pub mod Numbers
+pub mod Program
+pub mod Expressions
+pub mod Parents
+pub mod Questions
+pub mod Check
+pub mod Tree
+pub mod State
+pub mod Walk
+pub mod Completion
+pub mod Cycle
+pub mod Run
+pub mod Calls
+pub mod Schedule
+pub mod Samples

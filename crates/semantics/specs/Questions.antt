@@ -1,0 +1,17 @@
+-- "Questions in order": a no gives the number; 0 means none was no.
+use mathlib.Core.Bool.{Bool, cond}
+use mathlib.Core.List.{List, [], _∷_}
+use Prim.Native.Nat.{ℕ}
+
+-- A question's number, and whether it is answered yes.
+pub record Question : Type 0 where
+  pub number : ℕ
+  pub yes : Bool
+
+abbrev pub ask : ℕ → Bool → Question
+ask q b = record { number = q; yes = b }
+
+-- The number of the first question answered no.
+abbrev pub firstNo : List Question → ℕ
+firstNo [] = 0
+firstNo (q ∷ qs) = cond (q .yes) (firstNo qs) (q .number)

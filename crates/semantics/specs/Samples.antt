@@ -1,0 +1,190 @@
+-- "Sample papers": the cases that 01 marks with a star, and one more, as one list. Each begins and then runs, through
+-- all the questions, as the calls do; `proofs/SamplesPass.antt` has the theorem on the list.
+use mathlib.Core.Bool.{Bool, true, false, _&&_}
+use mathlib.Core.List.{List, [], _∷_, _++_}
+use Prim.Native.Nat.{ℕ}
+use lib.Dec.{eqb}
+use lib.ListN.{replicate}
+use Rattle.semantics.specs.Program.{Program, nodeCount}
+use Rattle.semantics.specs.State.{State}
+use Rattle.semantics.specs.Check.{checkNumber}
+use Rattle.semantics.specs.Calls.{Answer, beginAnswer, runAnswer}
+
+-- A paper: a program with starting values, the cycles asked and the book; what check, begin and run must answer.
+pub record Paper : Type 0 where
+  pub program : Program
+  pub values : List ℕ
+  pub cycles : ℕ
+  pub book : List ℕ
+  pub check : ℕ
+  pub begin : Answer
+  pub run : Answer
+
+-- ---- papers that pass
+
+abbrev pub sameList : List ℕ → List ℕ → Bool
+sameList [] [] = true
+sameList [] (y ∷ ys) = false
+sameList (x ∷ xs) [] = false
+sameList (x ∷ xs) (y ∷ ys) = eqb x y && sameList xs ys
+
+abbrev pub sameAnswer : Answer → Answer → Bool
+sameAnswer a b =
+    eqb (a .number) (b .number) && eqb (a .worked) (b .worked) && sameList (a .state .values) (b .state .values)
+    && sameList (a .state .marks) (b .state .marks) && sameList (a .state .counts) (b .state .counts)
+
+-- Begin is lent marks of 1 and counts of 9, which it must ignore, and leave where it refuses.
+abbrev pub lent : Paper → State
+lent p =
+    let n = nodeCount (p .program .nodes) in
+    record { values = p .values; marks = replicate n 1; counts = replicate n 9 }
+
+-- Run starts from what begin left.
+abbrev pub passes : Paper → Bool
+passes p =
+    let begun = beginAnswer (p .program) (lent p) in
+    eqb (checkNumber (p .program)) (p .check) && sameAnswer begun (p .begin)
+    && sameAnswer (runAnswer (p .program) (p .cycles) (begun .state) (p .book)) (p .run)
+
+abbrev pub allPass : List Paper → Bool
+allPass [] = true
+allPass (p ∷ ps) = passes p && allPass ps
+
+-- ---- how the list is written
+
+abbrev pub expr : ℕ → ℕ → ℕ → List ℕ
+expr op p q = op ∷ p ∷ q ∷ []
+
+abbrev pub node : ℕ → ℕ → ℕ → ℕ → ℕ → List ℕ
+node kind parent end a b = kind ∷ parent ∷ end ∷ a ∷ b ∷ []
+
+-- expressions, nodes, V, C
+abbrev pub program : List ℕ → List ℕ → ℕ → ℕ → Program
+program exprs nodes v c = record { exprs = exprs; nodes = nodes; variables = v; channels = c }
+
+-- number, cycles worked, values, marks, counts
+abbrev pub gives : ℕ → ℕ → List ℕ → List ℕ → List ℕ → Answer
+gives q k vs ms cs = record { number = q; worked = k; state = record { values = vs; marks = ms; counts = cs } }
+
+-- a program that check accepts: values, cycles, book, what begin gives, what run gives
+abbrev pub paper : Program → List ℕ → ℕ → List ℕ → Answer → Answer → Paper
+paper P vs n book b r = record { program = P; values = vs; cycles = n; book = book; check = 0; begin = b; run = r }
+
+-- ---- the programs
+
+-- DLY
+abbrev pub delay : Program
+delay = program [] (node 8 65535 1 0 0) 0 0
+
+-- PAR{v0:=v1; v1:=v0}
+abbrev pub swap : Program
+swap = program (expr 1 0 0 ++ expr 1 1 0) (node 2 65535 3 0 0 ++ node 3 0 2 0 1 ++ node 3 0 3 1 0) 2 0
+
+-- PAR{v0:=1; v0:=1}
+abbrev pub sameTarget : Program
+sameTarget = program (expr 0 1 0) (node 2 65535 3 0 0 ++ node 3 0 2 0 0 ++ node 3 0 3 0 0) 1 0
+
+-- PAR{IN c0 v0; SEQ{DLY; OUT c0 5}}
+abbrev pub handover : Program
+handover =
+    program (expr 0 5 0)
+    (node 2 65535 5 0 0 ++ node 4 0 2 0 0 ++ node 1 0 5 0 0 ++ node 8 2 4 0 0 ++ node 5 2 5 0 0) 1 1
+
+-- PAR{IN c0 v0; IN c0 v0}
+abbrev pub twoInputs : Program
+twoInputs = program [] (node 2 65535 3 0 0 ++ node 4 0 2 0 0 ++ node 4 0 3 0 0) 1 1
+
+-- WHL 1 {WHL 0 {DLY}}
+abbrev pub loopAtOnce : Program
+loopAtOnce = program (expr 0 1 0 ++ expr 0 0 0) (node 7 65535 3 0 0 ++ node 7 0 3 1 0 ++ node 8 1 3 0 0) 0 0
+
+-- PAR{WHL 0 {DLY}; WHL 0 {DLY}}
+abbrev pub nothingToDo : Program
+nothingToDo =
+    program (expr 0 0 0)
+    (node 2 65535 5 0 0 ++ node 7 0 3 0 0 ++ node 8 1 3 0 0 ++ node 7 0 5 0 0 ++ node 8 3 5 0 0) 0 0
+
+-- WHL 1 {PAR{DLY; DLY}}
+abbrev pub twoThreads : Program
+twoThreads = program (expr 0 1 0) (node 7 65535 4 0 0 ++ node 2 0 4 0 0 ++ node 8 1 3 0 0 ++ node 8 1 4 0 0) 0 0
+
+-- WHL v0 {v0:=v0−1}
+abbrev pub countdown : Program
+countdown = program (expr 1 0 0 ++ expr 0 1 0 ++ expr 3 0 1) (node 7 65535 2 0 0 ++ node 3 0 2 0 2) 1 0
+
+-- WHL 1 {SEQ{WHL v0 {v0:=0}}}
+abbrev pub loopLater : Program
+loopLater =
+    program (expr 0 1 0 ++ expr 1 0 0 ++ expr 0 0 0)
+    (node 7 65535 4 0 0 ++ node 1 0 4 0 0 ++ node 7 1 4 1 0 ++ node 3 2 4 0 2) 1 0
+
+-- PAR{IN c0 v0; v0:=1}
+abbrev pub inputAlone : Program
+inputAlone = program (expr 0 1 0) (node 2 65535 3 0 0 ++ node 4 0 2 0 0 ++ node 3 0 3 0 0) 1 1
+
+-- ---- the list
+
+abbrev pub swapBegun : Answer
+swapBegun = gives 0 0 (3 ∷ 7 ∷ []) (0 ∷ 1 ∷ 1 ∷ []) (2 ∷ 0 ∷ 0 ∷ [])
+
+-- a book that question 7 refuses at once: nothing is worked
+abbrev pub swapRefused : Answer
+swapRefused = gives 7 0 (3 ∷ 7 ∷ []) (0 ∷ 1 ∷ 1 ∷ []) (2 ∷ 0 ∷ 0 ∷ [])
+
+abbrev pub handoverBegun : Answer
+handoverBegun = gives 0 0 (0 ∷ []) (0 ∷ 1 ∷ 0 ∷ 1 ∷ 0 ∷ []) (2 ∷ 0 ∷ 0 ∷ 0 ∷ 0 ∷ [])
+
+abbrev pub twoBegun : Answer
+twoBegun = gives 0 0 [] (0 ∷ 0 ∷ 1 ∷ 1 ∷ []) (0 ∷ 2 ∷ 0 ∷ 0 ∷ [])
+
+abbrev pub twoAgain : Answer
+twoAgain = gives 0 1 [] (0 ∷ 0 ∷ 1 ∷ 1 ∷ []) (0 ∷ 2 ∷ 0 ∷ 0 ∷ [])
+
+unfoldable pub samples : List Paper
+samples =
+    -- * one DLY, run 5, book 0: worked 1, ended
+    paper delay [] 5 (0 ∷ []) (gives 0 0 [] (1 ∷ []) (0 ∷ [])) (gives 0 1 [] (0 ∷ []) (0 ∷ []))
+    -- * the swap, book 1,2 or 2,1: values 7, 3, ended
+    ∷ paper swap (3 ∷ 7 ∷ []) 5 (1 ∷ 2 ∷ []) swapBegun (gives 0 1 (7 ∷ 3 ∷ []) (0 ∷ 0 ∷ 0 ∷ []) (0 ∷ 0 ∷ 0 ∷ []))
+    ∷ paper swap (3 ∷ 7 ∷ []) 5 (2 ∷ 1 ∷ []) swapBegun (gives 0 1 (7 ∷ 3 ∷ []) (0 ∷ 0 ∷ 0 ∷ []) (0 ∷ 0 ∷ 0 ∷ []))
+    -- * the same, book 1,1 or book 1: number 7, worked 0
+    ∷ paper swap (3 ∷ 7 ∷ []) 5 (1 ∷ 1 ∷ []) swapBegun swapRefused
+    ∷ paper swap (3 ∷ 7 ∷ []) 5 (1 ∷ []) swapBegun swapRefused
+    -- * two stores of 1 to v0: number 9
+    ∷ paper sameTarget (0 ∷ []) 5 (1 ∷ 2 ∷ [])
+    (gives 0 0 (0 ∷ []) (0 ∷ 1 ∷ 1 ∷ []) (2 ∷ 0 ∷ 0 ∷ []))
+    (gives 9 0 (0 ∷ []) (0 ∷ 1 ∷ 1 ∷ []) (2 ∷ 0 ∷ 0 ∷ []))
+    -- * a hand-over on c0: marks 1,3; after one cycle 1,4; after two v0 = 5, ended
+    ∷ paper handover (0 ∷ []) 0 [] handoverBegun handoverBegun
+    ∷ paper handover (0 ∷ []) 1 (1 ∷ 3 ∷ []) handoverBegun
+    (gives 0 1 (0 ∷ []) (0 ∷ 1 ∷ 0 ∷ 0 ∷ 1 ∷ []) (2 ∷ 0 ∷ 0 ∷ 0 ∷ 0 ∷ []))
+    ∷ paper handover (0 ∷ []) 5 (1 ∷ 3 ∷ 1 ∷ 4 ∷ []) handoverBegun
+    (gives 0 2 (5 ∷ []) (0 ∷ 0 ∷ 0 ∷ 0 ∷ 0 ∷ []) (0 ∷ 0 ∷ 0 ∷ 0 ∷ 0 ∷ []))
+    -- * two IN on c0: number 8, no OUT needed
+    ∷ paper twoInputs (0 ∷ []) 5 (1 ∷ 2 ∷ [])
+    (gives 0 0 (0 ∷ []) (0 ∷ 1 ∷ 1 ∷ []) (2 ∷ 0 ∷ 0 ∷ []))
+    (gives 8 0 (0 ∷ []) (0 ∷ 1 ∷ 1 ∷ []) (2 ∷ 0 ∷ 0 ∷ []))
+    -- * WHL 1 {WHL 0 {DLY}}: begin gives 10 and leaves the lists as they were, which run then refuses
+    ∷ paper loopAtOnce [] 5 []
+    (gives 10 0 [] (1 ∷ 1 ∷ 1 ∷ []) (9 ∷ 9 ∷ 9 ∷ []))
+    (gives 6 0 [] (1 ∷ 1 ∷ 1 ∷ []) (9 ∷ 9 ∷ 9 ∷ []))
+    -- * PAR of two WHL 0 {DLY}: begin gives 0, no mark, count 0
+    ∷ paper nothingToDo [] 5 []
+    (gives 0 0 [] (0 ∷ 0 ∷ 0 ∷ 0 ∷ 0 ∷ []) (0 ∷ 0 ∷ 0 ∷ 0 ∷ 0 ∷ []))
+    (gives 0 0 [] (0 ∷ 0 ∷ 0 ∷ 0 ∷ 0 ∷ []) (0 ∷ 0 ∷ 0 ∷ 0 ∷ 0 ∷ []))
+    -- * WHL 1 {PAR{DLY; DLY}}: after a cycle in either order marks 2,3 and count 2 at node 1
+    ∷ paper twoThreads [] 1 (2 ∷ 3 ∷ []) twoBegun twoAgain
+    ∷ paper twoThreads [] 1 (3 ∷ 2 ∷ []) twoBegun twoAgain
+    -- * WHL v0 {v0:=v0−1}, v0 = 1: after one cycle v0 = 0, ended
+    ∷ paper countdown (1 ∷ []) 5 (1 ∷ [])
+    (gives 0 0 (1 ∷ []) (0 ∷ 1 ∷ []) (0 ∷ 0 ∷ []))
+    (gives 0 1 (0 ∷ []) (0 ∷ 0 ∷ []) (0 ∷ 0 ∷ []))
+    -- * WHL 1 {SEQ{WHL v0 {v0:=0}}}, v0 = 1: begin 0; run gives 10, worked 0, v0 still 1
+    ∷ paper loopLater (1 ∷ []) 5 (3 ∷ [])
+    (gives 0 0 (1 ∷ []) (0 ∷ 0 ∷ 0 ∷ 1 ∷ []) (0 ∷ 0 ∷ 0 ∷ 0 ∷ []))
+    (gives 10 0 (1 ∷ []) (0 ∷ 0 ∷ 0 ∷ 1 ∷ []) (0 ∷ 0 ∷ 0 ∷ 0 ∷ []))
+    -- not of 01: a waiting IN stores nothing, so that question 9 is answered yes
+    ∷ paper inputAlone (0 ∷ []) 1 (1 ∷ 2 ∷ [])
+    (gives 0 0 (0 ∷ []) (0 ∷ 1 ∷ 1 ∷ []) (2 ∷ 0 ∷ 0 ∷ []))
+    (gives 0 1 (1 ∷ []) (0 ∷ 1 ∷ 0 ∷ []) (1 ∷ 0 ∷ 0 ∷ []))
+    ∷ []
