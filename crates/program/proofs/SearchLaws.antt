@@ -1,0 +1,40 @@
+-- Laws of a search from the front: one more index passes, an index fails, or the end is reached.
+use mathlib.Core.Path.{_≡_, sym, subst, _∙_}
+use mathlib.Core.Bool.{Bool, true, false, not, true≢false}
+use mathlib.Core.Logic.{inl, inr}
+use Prim.Native.Nat.{ℕ, _+_, _≤_, _<_, zero-le}
+use native.Mathlib.Omega.{arith}
+use borrow.Author.Tests.{not-true, not-false}
+use Rattle.semantics.specs.Numbers.{below, every}
+use Rattle.semantics.proofs.Logic.{lt-or-le, true-or-false}
+use Rattle.semantics.proofs.NumberLaws.{every-at, every-all}
+use Rattle.program.specs.Search.{FirstFault}
+
+module _ (ok : ℕ → Bool) where
+  -- r is the code's test of index i
+  pub passed-more : (i : ℕ) (r : Bool) → every ok (below i) ≡ true → r ≡ ok i → not r ≡ false
+      → every ok (below (i + 1)) ≡ true
+  passed-more i r h e t = every-all ok (i + 1) 0 (λ k l u. elim (lt-or-le k i) [
+    | inl v ↦ every-at ok i 0 k h l (omega arith)
+    | inr v ↦ let q : k ≡ i = omega arith in rw q (sym e ∙ not-false r t)
+  ])
+
+  pub failed : (count i : ℕ) (r : Bool) → i ≤ count → every ok (below i) ≡ true → r ≡ ok i → not r ≡ true
+      → FirstFault ok count i
+  failed count i r l h e t = record { within = l; passed = h; fault = λ u. sym e ∙ not-true r t }
+
+  pub all-passed : (count i : ℕ) → i ≤ count → count ≤ i → every ok (below i) ≡ true → FirstFault ok count i
+  all-passed count i l u h = record { within = l; passed = h; fault = λ v. absurd (omega arith) }
+
+  -- what a search found, as an answer of the question
+  pub found : (count i : ℕ) → FirstFault ok count i → i < count → every ok (below count) ≡ false
+  found count i f l = elim (true-or-false (every ok (below count))) [
+    | inl e ↦ absurd (true≢false (sym (every-at ok count 0 i e zero-le (omega arith)) ∙ f .fault l))
+    | inr e ↦ e
+  ]
+
+  pub not-found : (count i : ℕ) → FirstFault ok count i → count ≤ i → every ok (below count) ≡ true
+  not-found count i f u =
+      let w = f .within in
+      let e : i ≡ count = omega arith in
+      subst (λ (x : ℕ). every ok (below x) ≡ true) e (f .passed)

@@ -1,0 +1,55 @@
+-- `first_faulty_expr` stops at the first expression with a fault. The invariant: no expression passed has one.
+use mathlib.Core.Path.{_≡_, refl}
+use mathlib.Core.Bool.{true}
+use mathlib.Core.List.{List}
+use Prim.Native.Nat.{ℕ, _-_, _≤_}
+use native.Mathlib.Omega.{arith}
+use borrow.Author.Needs.{needs}
+use Rattle.semantics.specs.Numbers.{upFrom, below, every}
+use Rattle.semantics.specs.Check.{exprOk}
+use Rattle.program.specs.Answer.{programOf}
+use Rattle.program.proofs.SearchLaws.{passed-more, failed, all-passed}
+use Rattle.program.proofs.expressions.first_faulty_expr.Statement.{statement}
+use Rattle.program.proofs.expressions.first_faulty_expr.Tie as tie
+
+abbrev Inv-loop : tie.InvT-loop
+Inv-loop exprs vars count i₀ i =
+    (i ≤ count) × ((nodes : List ℕ) (chans : ℕ) → every (exprOk (programOf exprs nodes vars chans)) (below i) ≡ true)
+
+abbrev μ-loop : tie.MeasureT-loop
+μ-loop exprs vars count i₀ i = count - i
+
+loop-holds : tie.Need-loop-holds Inv-loop μ-loop
+unfolding every upFrom
+loop-holds c = (search needs, λ nodes chans. refl)
+
+expr-ok-requires : tie.Need-expr-ok-requires Inv-loop μ-loop
+expr-ok-requires c κs = search needs
+
+returns : tie.Need-returns Inv-loop μ-loop
+returns c nodes chans =
+    let l = c .before .before .before .loop in
+    failed _ _ (l .i) _ (l .inv .0) (l .inv .1 nodes chans) (c .before .expr-ok .ensures nodes chans) (c .if1 .taken)
+
+add-i : tie.Need-add-i Inv-loop μ-loop
+add-i c = search needs
+
+loop-less : tie.Need-loop-less Inv-loop μ-loop
+loop-less c = search needs
+
+loop-again : tie.Need-loop-again Inv-loop μ-loop
+loop-again c =
+    let l = c .before .before .before .loop in (
+      omega arith,
+      λ nodes chans.
+          passed-more _ (l .i) _ (l .inv .1 nodes chans) (c .before .expr-ok .ensures nodes chans) (c .if1 .left),
+    )
+
+returns-2 : tie.Need-returns-2 Inv-loop μ-loop
+returns-2 c nodes chans =
+    let l = c .before .loop in
+    all-passed _ _ (l .i) (l .inv .0) (c .loop-test .left) (l .inv .1 nodes chans)
+
+pub first-faulty-expr-spec : {M : Type 1} → statement M
+first-faulty-expr-spec =
+    tie.close (tie.spec Inv-loop μ-loop loop-holds expr-ok-requires returns add-i loop-less loop-again returns-2)

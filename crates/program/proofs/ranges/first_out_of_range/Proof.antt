@@ -1,0 +1,49 @@
+-- `first_out_of_range` stops at the first node with a fault of question 4. The invariant: no node passed has one.
+use mathlib.Core.Path.{_≡_, refl}
+use mathlib.Core.Bool.{true}
+use Prim.Native.Nat.{_-_, _≤_}
+use native.Mathlib.Omega.{arith}
+use borrow.Author.Needs.{needs}
+use Rattle.semantics.specs.Numbers.{upFrom, below, every}
+use Rattle.semantics.specs.Check.{rangeOk}
+use Rattle.program.specs.Answer.{programOf}
+use Rattle.program.proofs.SearchLaws.{passed-more, failed, all-passed}
+use Rattle.program.proofs.ranges.first_out_of_range.Statement.{statement}
+use Rattle.program.proofs.ranges.first_out_of_range.Tie as tie
+
+abbrev Inv-loop : tie.InvT-loop
+Inv-loop exprs nodes vars chans count i₀ i =
+    (i ≤ count) × (every (rangeOk (programOf exprs nodes vars chans)) (below i) ≡ true)
+
+abbrev μ-loop : tie.MeasureT-loop
+μ-loop exprs nodes vars chans count i₀ i = count - i
+
+loop-holds : tie.Need-loop-holds Inv-loop μ-loop
+unfolding every upFrom
+loop-holds c = (search needs, refl)
+
+range-ok-requires : tie.Need-range-ok-requires Inv-loop μ-loop
+range-ok-requires c κs = search needs
+
+returns : tie.Need-returns Inv-loop μ-loop
+returns c =
+    let l = c .before .before .before .loop in
+    failed _ _ (l .i) _ (l .inv .0) (l .inv .1) (c .before .range-ok .ensures) (c .if1 .taken)
+
+add-i : tie.Need-add-i Inv-loop μ-loop
+add-i c = search needs
+
+loop-less : tie.Need-loop-less Inv-loop μ-loop
+loop-less c = search needs
+
+loop-again : tie.Need-loop-again Inv-loop μ-loop
+loop-again c =
+    let l = c .before .before .before .loop in
+    (omega arith, passed-more _ (l .i) _ (l .inv .1) (c .before .range-ok .ensures) (c .if1 .left))
+
+returns-2 : tie.Need-returns-2 Inv-loop μ-loop
+returns-2 c = let l = c .before .loop in all-passed _ _ (l .i) (l .inv .0) (c .loop-test .left) (l .inv .1)
+
+pub first-out-of-range-spec : {M : Type 1} → statement M
+first-out-of-range-spec =
+    tie.close (tie.spec Inv-loop μ-loop loop-holds range-ok-requires returns add-i loop-less loop-again returns-2)

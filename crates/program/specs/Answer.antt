@@ -1,0 +1,15 @@
+-- What check promises: the rules' number of the program in the lent lists, and an item that has that fault.
+use mathlib.Core.Path.{_≡_}
+use mathlib.Core.Bool.{true}
+use mathlib.Core.List.{List}
+use Prim.Native.Nat.{ℕ}
+use Rattle.semantics.specs.Program.{Program}
+use Rattle.semantics.specs.Check.{checkNumber, isFaultItem}
+
+-- The program that two lists and two numbers hold.
+abbrev pub programOf : List ℕ → List ℕ → ℕ → ℕ → Program
+programOf exprs nodes vars chans = record { exprs = exprs; nodes = nodes; variables = vars; channels = chans }
+
+pub record CheckAnswer (P : Program) (number item : ℕ) : Type 0 where
+  pub rightNumber : number ≡ checkNumber P
+  pub faultItem : isFaultItem P number item ≡ true
