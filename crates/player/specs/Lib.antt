@@ -1,0 +1,10 @@
+pub mod Word
+pub mod Walks
+pub mod WellFormed
+pub mod Entries
+pub mod Claims
+pub mod Cycles
+pub mod Begin
+pub mod Running
+pub mod Run
+pub mod CycleSteps

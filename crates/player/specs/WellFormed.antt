@@ -1,0 +1,30 @@
+-- Question 6 as the code answers it: one pass over the nodes, with a table of how many children of each node are live,
+-- that is, have a marked leaf at or below them.
+use mathlib.Core.Path.{_≡_}
+use mathlib.Core.Bool.{Bool, cond, _&&_}
+use mathlib.Core.List.{List}
+use Prim.Native.Nat.{ℕ, _+_, _<_}
+use lib.Dec.{ltb}
+use lib.ListN.{length, getD, set}
+use Rattle.semantics.specs.Program.{Program, nodeCount, parentAt}
+use Rattle.semantics.specs.State.{State, wellFormed}
+use Rattle.semantics.proofs.LiveChildren.{liveFrom}
+
+-- The answer for every program and state that have these lists.
+pub record WellFormedAnswer (nodes marks counts : List ℕ) (r : Bool) : Type 0 where
+  pub right : (P : Program) (s : State) → P .nodes ≡ nodes → s .marks ≡ marks → s .counts ≡ counts → r ≡ wellFormed P s
+
+-- The table with node i added to its parent's number, where it holds a mark. Node 0 has no parent.
+abbrev pub addedToParent : List ℕ → ℕ → Bool → List ℕ → List ℕ
+addedToParent nodes i holds live =
+    cond (holds && ltb 0 i) (set live (parentAt nodes i) (getD live (parentAt nodes i) 0 + 1)) live
+
+-- The parent of a node i above 0 has its place in the table, and room there for one more.
+pub record ParentFits (nodes : List ℕ) (i : ℕ) (live : List ℕ) : Type 0 where
+  pub inside : 0 < i → parentAt nodes i < length live
+  pub room : 0 < i → getD live (parentAt nodes i) 0 < 65535
+
+-- The table when the nodes from i on are added: the number of live children of each node h among them.
+pub record LiveTable (nodes marks : List ℕ) (i : ℕ) (live : List ℕ) : Type 0 where
+  pub size : length live ≡ 1024
+  pub entries : (h : ℕ) → h < nodeCount nodes → getD live h 0 ≡ liveFrom nodes marks i h

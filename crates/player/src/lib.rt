@@ -1,0 +1,128 @@
+// The player's calls, and the walks over accepted programs that they are made of.
+mod begun; // entering node 0
+pub mod c_interface; // the calls for C
+mod channels; // question 8, and what waits
+mod copy; // copying and clearing a list
+mod cycle; // one cycle
+mod cycles; // the cycles of a run
+mod enter; // entering a node
+mod entries; // question 7
+mod leave; // leaving a node
+mod lengths; // question 5
+mod slots; // tables of claims
+mod stores; // question 9, and what is stored
+mod threads; // thread counts
+mod visits; // the walks of a cycle
+mod well_formed; // question 6
+
+use begun::enter_first;
+use cycles::work_cycles;
+use lengths::lengths_fit;
+pub use program::Checked;
+pub use program::check;
+use well_formed::well_formed;
+ghost use Rattle.program.specs.Answer.{programOf};
+ghost use Rattle.player.specs.Begin.{stateOf, BeginAnswer};
+ghost use Rattle.player.specs.Run.{RunAnswer};
+
+// Begins a program with the values as given: asks questions 1 to 5 and 10, and where none is answered no, writes marks
+// and counts whole from entering node 0. What stood in them is not read.
+pub fn begin(
+    exprs: &[u16],
+    nodes: &[u16],
+    vars: u16,
+    chans: u16,
+    values: &[u16],
+    marks: &mut [u8],
+    counts: &mut [u16],
+) -> Checked
+    ensures { λ r. ⌜ BeginAnswer (programOf (now (exprs .entry)) (now (nodes .entry)) vars chans)
+        (stateOf (now (values .entry)) (now (marks .entry)) (now (counts .entry)))
+        (r .number) (r .item) (now (marks .exit)) (now (counts .exit)) ⌝ }
+{
+    let checked = program::check(exprs, nodes, vars, chans);
+    if checked.number != 0 {
+        return checked;
+    }
+    if !lengths_fit(
+        values.len(),
+        marks.len(),
+        counts.len(),
+        vars,
+        nodes.len() / 5,
+    ) {
+        return Checked { number: 5, item: 0 };
+    }
+    if enter_first(exprs, nodes, values, marks, counts) {
+        return Checked {
+            number: 10,
+            item: 0,
+        };
+    }
+    Checked { number: 0, item: 0 }
+}
+
+// The number of the first question answered no, or 0, the fault item, and how many cycles were worked.
+pub struct Ran {
+    pub number: u16,
+    pub item: u16,
+    pub worked: u16,
+}
+
+// Runs a program from the state in the three lists, by a schedule (the book of the rules), for as many cycles as are
+// asked.
+pub fn run(
+    exprs: &[u16],
+    nodes: &[u16],
+    vars: u16,
+    chans: u16,
+    values: &mut [u16],
+    marks: &mut [u8],
+    counts: &mut [u16],
+    schedule: &[u16],
+    cycles: u16,
+) -> Ran
+    ensures { λ r. ⌜ RunAnswer (programOf (now (exprs .entry)) (now (nodes .entry)) vars chans) cycles
+        (stateOf (now (values .entry)) (now (marks .entry)) (now (counts .entry))) (now (schedule .entry))
+        (r .number) (r .item) (r .worked) (stateOf (now (values .exit)) (now (marks .exit)) (now (counts .exit))) ⌝ }
+{
+    let checked = program::check(exprs, nodes, vars, chans);
+    if checked.number != 0 {
+        return Ran {
+            number: checked.number,
+            item: checked.item,
+            worked: 0,
+        };
+    }
+    if !lengths_fit(
+        values.len(),
+        marks.len(),
+        counts.len(),
+        vars,
+        nodes.len() / 5,
+    ) {
+        return Ran {
+            number: 5,
+            item: 0,
+            worked: 0,
+        };
+    }
+    if !well_formed(nodes, marks, counts) {
+        return Ran {
+            number: 6,
+            item: 0,
+            worked: 0,
+        };
+    }
+    work_cycles(
+        exprs,
+        nodes,
+        vars,
+        chans,
+        values,
+        marks,
+        counts,
+        schedule,
+        cycles,
+    )
+}
