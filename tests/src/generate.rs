@@ -1,0 +1,18 @@
+//! Random cases. Every function takes its numbers from a `Random` and nothing else.
+
+mod damage;
+mod expressions;
+mod maker;
+mod pattern;
+mod program;
+mod schedule;
+mod shape;
+mod state;
+mod values;
+
+pub use damage::{changes, damage, rubbish, tight_limits};
+pub use program::program;
+pub use schedule::{flawed_schedule, right_schedule, schedule};
+pub use shape::{shape, small_shape, Shape};
+pub use state::{counts_for, damaged_state, reached_state, well_formed_state};
+pub use values::values;

@@ -1,0 +1,50 @@
+//! The limits of N and of depth.
+
+use super::{program, Limit};
+use crate::expression::Expressions;
+use crate::program::Program;
+use crate::statement::Statement::{self, Dly, Par, Seq};
+
+fn of_nodes(n: usize) -> Program {
+    program(Expressions::new(), Par(vec![Dly; n - 1]), 0, 0)
+}
+
+fn of_depth(depth: usize) -> Program {
+    let mut statement: Statement = Dly;
+    for _ in 1..depth {
+        statement = Seq(vec![statement]);
+    }
+    program(Expressions::new(), statement, 0, 0)
+}
+
+pub fn n_1024() -> Limit {
+    Limit {
+        name: "N 1,024",
+        program: of_nodes(1024),
+        number: 0,
+    }
+}
+
+pub fn n_1025() -> Limit {
+    Limit {
+        name: "N 1,025",
+        program: of_nodes(1025),
+        number: 1,
+    }
+}
+
+pub fn depth_32() -> Limit {
+    Limit {
+        name: "depth 32",
+        program: of_depth(32),
+        number: 0,
+    }
+}
+
+pub fn depth_33() -> Limit {
+    Limit {
+        name: "depth 33",
+        program: of_depth(33),
+        number: 3,
+    }
+}

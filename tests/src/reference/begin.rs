@@ -1,0 +1,43 @@
+//! Questions 1 to 5 and 10, and the entering of node 0.
+
+use super::check::check;
+use super::evaluate::evaluate;
+use super::tree::Tree;
+use super::walk::Walk;
+use crate::program::Program;
+
+/// The number, then the marks and counts as the call leaves them.
+pub fn begin(
+    program: &Program,
+    values: &[u16],
+    marks: &[u8],
+    counts: &[u16],
+) -> (u16, Vec<u8>, Vec<u16>) {
+    let refused = |number: u16| (number, marks.to_vec(), counts.to_vec());
+    let number = check(program);
+    if number != 0 {
+        return refused(number);
+    }
+    if !lengths_right(program, values, marks, counts) {
+        return refused(5);
+    }
+    let n = program.node_count();
+    let mut walk = Walk {
+        program,
+        tree: &Tree::of(program),
+        results: &evaluate(program, values),
+        marks: vec![0; n],
+        counts: vec![0; n],
+    };
+    match walk.enter(0) {
+        Ok(_) => (0, walk.marks, walk.counts),
+        Err(_) => refused(10),
+    }
+}
+
+/// Question 5.
+pub fn lengths_right(program: &Program, values: &[u16], marks: &[u8], counts: &[u16]) -> bool {
+    values.len() == program.vars as usize
+        && marks.len() == program.node_count()
+        && counts.len() == program.node_count()
+}

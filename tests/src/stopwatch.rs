@@ -1,0 +1,28 @@
+//! How long a call takes.
+
+use crate::program::State;
+use std::time::{Duration, Instant};
+
+/// The call is repeated until this time is spent in it, so that the clock's own steps do not matter.
+const LEAST: Duration = Duration::from_millis(20);
+
+/// Nanoseconds per call. Each call starts from a copy of `start`, made while the clock stands.
+pub fn measure(start: &State, mut call: impl FnMut(&mut State)) -> f64 {
+    let mut state = start.clone();
+    let (mut spent, mut times) = (Duration::ZERO, 0);
+    while spent < LEAST {
+        reset(&mut state, start);
+        let from = Instant::now();
+        call(&mut state);
+        spent += from.elapsed();
+        times += 1;
+    }
+    spent.as_nanos() as f64 / times as f64
+}
+
+/// Into the same memory as far as the call has kept it.
+fn reset(state: &mut State, start: &State) {
+    state.values.copy_from_slice(&start.values);
+    state.marks.copy_from_slice(&start.marks);
+    state.counts.copy_from_slice(&start.counts);
+}

@@ -1,0 +1,90 @@
+//! `player_begin` against the reference.
+
+use pahmozil_tests::compare;
+use pahmozil_tests::generate;
+use pahmozil_tests::papers;
+use pahmozil_tests::player;
+use pahmozil_tests::program::Program;
+use pahmozil_tests::random::Random;
+use pahmozil_tests::tally::Tally;
+
+/// What stands in a list before the call, which must not be read.
+fn old_marks(random: &mut Random, length: usize) -> Vec<u8> {
+    (0..length).map(|_| random.word() as u8).collect()
+}
+
+fn old_counts(random: &mut Random, length: usize) -> Vec<u16> {
+    (0..length).map(|_| random.word()).collect()
+}
+
+fn other_length(random: &mut Random, length: usize) -> usize {
+    let lengths = [
+        0,
+        length.saturating_sub(1),
+        length + 1,
+        length + 5,
+        2 * length,
+    ];
+    random.pick(&lengths)
+}
+
+fn one_case(random: &mut Random, program: &Program) -> u16 {
+    let mut lengths = [
+        program.vars as usize,
+        program.node_count(),
+        program.node_count(),
+    ];
+    if random.percent(10) {
+        let which = random.below(3);
+        lengths[which] = other_length(random, lengths[which]);
+    }
+    // Values for every variable that a refused program claims to have would only cost time.
+    let values = generate::values(random, lengths[0].min(300));
+    let marks = old_marks(random, lengths[1]);
+    let counts = old_counts(random, lengths[2]);
+    compare::begin(program, &values, &marks, &counts)
+}
+
+#[test]
+fn random_programs() {
+    let random = &mut Random::new(202);
+    let tally = &mut Tally::new("begin");
+    for case in 0..220_000 {
+        let shape = if case % 2 == 0 {
+            generate::shape(random)
+        } else {
+            generate::small_shape(random)
+        };
+        let mut program = generate::program(random, &shape);
+        if case % 3 == 0 {
+            generate::damage(random, &mut program);
+        }
+        tally.meet(one_case(random, &program));
+    }
+    for _ in 0..200 {
+        let program = generate::tight_limits(random);
+        tally.meet(one_case(random, &program));
+    }
+    tally.demand(&[0, 1, 2, 3, 4, 5, 10], 3_000);
+}
+
+#[test]
+fn sample_papers() {
+    for paper in papers::all() {
+        let n = paper.program.node_count();
+        let (mut marks, mut counts) = (vec![1; n], vec![9; n]);
+        let answer = player::begin(&paper.program, &paper.values, &mut marks, &mut counts);
+        assert_eq!(
+            (answer.number, answer.item),
+            (paper.begin, 0),
+            "{}",
+            paper.name
+        );
+        if paper.begin == 0 {
+            assert_eq!(marks, paper.start.marks, "{}", paper.name);
+            assert_eq!(counts, paper.start.counts, "{}", paper.name);
+        } else {
+            assert_eq!((marks, counts), (vec![1; n], vec![9; n]), "{}", paper.name);
+        }
+    }
+}

@@ -1,0 +1,131 @@
+//! `player_check` against the reference.
+
+use pahmozil_tests::compare;
+use pahmozil_tests::generate;
+use pahmozil_tests::papers;
+use pahmozil_tests::program::Program;
+use pahmozil_tests::random::Random;
+use pahmozil_tests::tally::Tally;
+
+fn accepted(random: &mut Random) -> Program {
+    let shape = generate::shape(random);
+    generate::program(random, &shape)
+}
+
+fn small(random: &mut Random) -> Program {
+    let shape = generate::small_shape(random);
+    generate::program(random, &shape)
+}
+
+#[test]
+fn random_lists() {
+    let random = &mut Random::new(101);
+    let tally = &mut Tally::new("check");
+    for _ in 0..40_000 {
+        assert_eq!(compare::check(&accepted(random)), 0);
+        tally.meet(0);
+    }
+    while tally.total() < 160_000 {
+        each_word_changed(random, tally);
+        each_length_cut(random, tally);
+    }
+    for _ in 0..60_000 {
+        let mut program = if random.percent(20) {
+            accepted(random)
+        } else {
+            small(random)
+        };
+        generate::damage(random, &mut program);
+        tally.meet(compare::check(&program));
+    }
+    for _ in 0..20_000 {
+        tally.meet(compare::check(&generate::rubbish(random, 8)));
+    }
+    for _ in 0..1_500 {
+        tally.meet(compare::check(&generate::tight_limits(random)));
+    }
+    tally.demand(&[0, 1, 2, 3, 4], 4_000);
+    assert!(tally.total() >= 200_000);
+}
+
+fn each_word_changed(random: &mut Random, tally: &mut Tally) {
+    let program = small(random);
+    for at in 0..program.exprs.len() {
+        for word in generate::changes(random, &program, program.exprs[at]) {
+            let mut other = program.clone();
+            other.exprs[at] = word;
+            tally.meet(compare::check(&other));
+        }
+    }
+    for at in 0..program.nodes.len() {
+        for word in generate::changes(random, &program, program.nodes[at]) {
+            let mut other = program.clone();
+            other.nodes[at] = word;
+            tally.meet(compare::check(&other));
+        }
+    }
+    for word in generate::changes(random, &program, program.vars) {
+        tally.meet(compare::check(&Program {
+            vars: word,
+            ..program.clone()
+        }));
+    }
+    for word in generate::changes(random, &program, program.chans) {
+        tally.meet(compare::check(&Program {
+            chans: word,
+            ..program.clone()
+        }));
+    }
+}
+
+fn each_length_cut(random: &mut Random, tally: &mut Tally) {
+    let program = small(random);
+    for length in 0..program.exprs.len() {
+        let mut other = program.clone();
+        other.exprs.truncate(length);
+        tally.meet(compare::check(&other));
+    }
+    for length in 0..program.nodes.len() {
+        let mut other = program.clone();
+        other.nodes.truncate(length);
+        tally.meet(compare::check(&other));
+    }
+}
+
+#[test]
+fn empty_lists() {
+    let program = Program {
+        exprs: vec![],
+        nodes: vec![],
+        vars: 0,
+        chans: 0,
+    };
+    assert_eq!(compare::check(&program), 1);
+}
+
+#[test]
+fn sample_papers() {
+    for paper in papers::all() {
+        assert_eq!(compare::check(&paper.program), 0, "{}", paper.name);
+    }
+}
+
+#[test]
+fn n_1024_passes() {
+    assert_eq!(compare::check(&papers::n_1024().program), 0);
+}
+
+#[test]
+fn n_1025_gives_1() {
+    assert_eq!(compare::check(&papers::n_1025().program), 1);
+}
+
+#[test]
+fn depth_32_passes() {
+    assert_eq!(compare::check(&papers::depth_32().program), 0);
+}
+
+#[test]
+fn depth_33_gives_3() {
+    assert_eq!(compare::check(&papers::depth_33().program), 3);
+}
