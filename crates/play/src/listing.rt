@@ -1,0 +1,127 @@
+// The program as an indented listing: a line for each node, with its number.
+use super::expression::put_expression;
+use super::line::Line;
+use super::lists::byte_at;
+use super::lists::less;
+use super::lists::set_word;
+use super::lists::word_at;
+
+// Where the statements stand, after the numbers of their nodes.
+const START: usize = 6;
+
+// The deepest node that is indented as such.
+const DEEPEST: u16 = 31;
+
+fn kind_word(nodes: &[u16], i: u16) -> u16 {
+    word_at(nodes, 5 * (i as usize))
+}
+
+fn parent_word(nodes: &[u16], i: u16) -> u16 {
+    word_at(nodes, 5 * (i as usize) + 1)
+}
+
+fn a_word(nodes: &[u16], i: u16) -> u16 {
+    word_at(nodes, 5 * (i as usize) + 3)
+}
+
+fn b_word(nodes: &[u16], i: u16) -> u16 {
+    word_at(nodes, 5 * (i as usize) + 4)
+}
+
+// How many nodes stand above a node, by the depths of those before it.
+fn depth_of(nodes: &[u16], i: u16, depths: &[u16]) -> u16 {
+    let parent = parent_word(nodes, i);
+    if i <= parent {
+        return 0;
+    }
+    let above = word_at(depths, parent as usize);
+    if above < DEEPEST { above + 1 } else { DEEPEST }
+}
+
+fn put_leaf(exprs: &[u16], kind: u16, a: u16, b: u16, named: &mut [u8], line: Line) -> Line {
+    match kind {
+        3 => put_expression(exprs, b, named, line.name(b'v', a).put(b" := ")),
+        4 => line.put(b"IN ").name(b'c', a).byte(b' ').name(b'v', b),
+        5 => put_expression(exprs, b, named, line.put(b"OUT ").name(b'c', a).byte(b' ')),
+        _ => line.put(b"DLY"),
+    }
+}
+
+fn put_branch(exprs: &[u16], kind: u16, a: u16, named: &mut [u8], line: Line) -> Line {
+    match kind {
+        1 => line.put(b"SEQ"),
+        2 => line.put(b"PAR"),
+        6 => put_expression(exprs, a, named, line.put(b"IF ")),
+        _ => put_expression(exprs, a, named, line.put(b"WHL ")),
+    }
+}
+
+fn put_statement(exprs: &[u16], nodes: &[u16], i: u16, named: &mut [u8], line: Line) -> Line {
+    let kind = kind_word(nodes, i);
+    let a = a_word(nodes, i);
+    match kind {
+        3..=5 | 8 => put_leaf(exprs, kind, a, b_word(nodes, i), named, line),
+        1..=2 | 6..=7 => put_branch(exprs, kind, a, named, line),
+        _ => line.put(b"kind ").word(kind),
+    }
+}
+
+fn indent(depth: u16) -> usize {
+    START + 2 * (depth as usize)
+}
+
+// An IF's second child comes after the word ELSE, which is no node.
+fn print_else(nodes: &[u16], i: u16, depth: u16) {
+    let parent = parent_word(nodes, i);
+    if i <= parent {
+        return;
+    }
+    if i - parent == 1 {
+        return;
+    }
+    if kind_word(nodes, parent) == 6 {
+        Line::new()
+            .pad_to(less(indent(depth), 2))
+            .put(b"ELSE")
+            .end();
+    }
+}
+
+fn print_node(exprs: &[u16], nodes: &[u16], i: u16, depth: u16, named: &mut [u8]) {
+    let line = Line::new().word_to(4, i).pad_to(indent(depth));
+    put_statement(exprs, nodes, i, named, line).end();
+}
+
+fn print_nodes(exprs: &[u16], nodes: &[u16], count: u16, depths: &mut [u16], named: &mut [u8]) {
+    let mut i: u16 = 0;
+    while i < count {
+        let depth = depth_of(nodes, i, depths);
+        set_word(depths, i as usize, depth);
+        print_else(nodes, i, depth);
+        print_node(exprs, nodes, i, depth, named);
+        i += 1;
+    }
+}
+
+fn print_if_named(exprs: &[u16], e: u16, named: &mut [u8]) {
+    if byte_at(named, e as usize) == 1 {
+        let line = Line::new().pad_to(START).name(b'e', e).put(b" is ");
+        put_expression(exprs, e, named, line).end();
+    }
+}
+
+// The expressions that the listing names, from the last to the first: those that they name in turn are lower.
+fn print_named(exprs: &[u16], count: u16, named: &mut [u8]) {
+    let mut left = count;
+    while 0 < left {
+        left -= 1;
+        print_if_named(exprs, left, named);
+    }
+}
+
+pub fn print(exprs: &[u16], nodes: &[u16], expr_count: u16, node_count: u16) {
+    let mut depths = [0u16; 1024];
+    let mut named = [0u8; 1024];
+    print_nodes(exprs, nodes, node_count, &mut depths, &mut named);
+    print_named(exprs, expr_count, &mut named);
+}
