@@ -1,51 +1,14 @@
-pub mod Logic
-pub mod NumberLaws
-pub mod SamplesPass
-pub mod ParentLaws
-pub mod QuestionLaws
-pub mod Positions
-pub mod Agreement
-pub mod NodeLaws
-pub mod TreeOfList
-pub mod StatementLaws
-pub mod KindLaws
-pub mod KindNumbers
-pub mod ChildLaws
-pub mod EnterLaws
-pub mod LeaveLaws
-pub mod LeaveFrames
-pub mod ActiveLaws
-pub mod AncestorLaws
-pub mod TreeWellFormed
-pub mod LiveStatements
-pub mod WellFormedOnTree
-pub mod TreeState
-pub mod TreeWalk
-pub mod TreeInvariant
-pub mod TreeCommute
-pub mod FlatLists
-pub mod EnterOnTree
-pub mod LeaveOnTree
-pub mod LeafNumbers
-pub mod OpLaws
-pub mod CrossOut
-pub mod AnyOrder
-pub mod ReadBack
-pub mod Load
-pub mod WalksOnTree
-pub mod EntriesLaws
-pub mod Stores
-pub mod RunLaws
-pub mod FirstWrong
-pub mod OrderOverCycles
-pub mod CycleOrder
-pub mod OrderRule
-pub mod RunTheorems
-pub mod ParentSearch
-pub mod Meetings
-pub mod LiveChildren
-pub mod WellFormedLocally
-pub mod SiblingLaws
-pub mod EntryCounts
-pub mod LeafKinds
-pub mod StoredValues
+-- In reading order; each folder's own file tells what is in it.
+
+-- numbers, tests, questions, kinds and ops, and what holds of any node list
+pub mod Lists
+-- the statement tree of a node list, and question 6 along it
+pub mod Tree
+-- entering and leaving, on the flat lists and in the tree
+pub mod Walks
+-- entries, stores and runs, where a book first goes wrong, and the sample papers
+pub mod Run
+-- the order of the entries does not show: one cycle, all cycles, the order rule and the theorems beside it
+pub mod Order
+-- what is proved, on a page
+pub mod Main

@@ -1,4 +1,5 @@
--- The three calls: all their questions in order, and the lists that they leave. Check's number is `checkNumber`.
+-- The calls begin and run, from "Questions in order": all their questions, and the lists that they leave. Check's
+-- number is `checkNumber`.
 use mathlib.Core.Bool.{false, cond, not}
 use mathlib.Core.List.{List, [], _∷_, _++_}
 use Prim.Native.Nat.{ℕ}
@@ -9,7 +10,7 @@ use Rattle.semantics.specs.Expressions.{isTrue}
 use Rattle.semantics.specs.Questions.{ask, firstNo}
 use Rattle.semantics.specs.Check.{checkQuestions}
 use Rattle.semantics.specs.Tree.{treeOf}
-use Rattle.semantics.specs.State.{State, fits, wellFormed}
+use Rattle.semantics.specs.State.{State, lengthsOk, wellFormed}
 use Rattle.semantics.specs.Walk.{Walk, walkOf, enter}
 use Rattle.semantics.specs.Run.{run}
 
@@ -23,23 +24,24 @@ abbrev pub answer : ℕ → State → Answer
 answer q s = record { number = q; worked = 0; state = s }
 
 -- Entering node 0, whatever stood in marks and counts.
-unfoldable pub begun : Program → List ℕ → Walk
-begun P values =
+unfoldable pub rootWalk : Program → List ℕ → Walk
+rootWalk P values =
     let zeros : List ℕ = replicate (nodeCount (P .nodes)) 0 in
     walkOf (enter (isTrue P values) (treeOf (P .nodes)) (record { marks = zeros; counts = zeros; looped = false }))
 
--- "Begin reads the values as given, ignores what stood in marks and counts, and writes those two from entering node 0;
--- refused, it writes nothing." It asks 1 to 5 and 10.
+-- Begin asks questions 1 to 5 and 10. It keeps the values and gives the marks and counts of `rootWalk`; where it
+-- refuses, all three lists stay.
 unfoldable pub beginAnswer : Program → State → Answer
 beginAnswer P s =
-    let w = begun P (s .values) in
-    let q = firstNo (checkQuestions P ++ ask 5 (fits P s) ∷ ask 10 (not (w .looped)) ∷ []) in
+    let w = rootWalk P (s .values) in
+    let q = firstNo (checkQuestions P ++ ask 5 (lengthsOk P s) ∷ ask 10 (not (w .looped)) ∷ []) in
     cond (eqb q 0) (answer 0 (record { values = s .values; marks = w .marks; counts = w .counts })) (answer q s)
 
--- "refused by 1 to 6, it has worked 0 and writes nothing"
+-- Run asks questions 1 to 6 and then works cycles, each of which asks 7 to 10. Where one of 1 to 6 is answered no, no
+-- cycle is worked and all three lists stay.
 unfoldable pub runAnswer : Program → ℕ → State → List ℕ → Answer
 runAnswer P n s book =
     let r = run P n s book in
-    let worked : Answer = record { number = r .number; worked = r .worked; state = r .state } in
-    let q = firstNo (checkQuestions P ++ ask 5 (fits P s) ∷ ask 6 (wellFormed P s) ∷ []) in
-    cond (eqb q 0) worked (answer q s)
+    let ran : Answer = record { number = r .number; worked = r .worked; state = r .state } in
+    let q = firstNo (checkQuestions P ++ ask 5 (lengthsOk P s) ∷ ask 6 (wellFormed P s) ∷ []) in
+    cond (eqb q 0) ran (answer q s)

@@ -1,6 +1,8 @@
--- What completes and what waits in a cycle, questions 8 and 9, and what is stored.
+-- What completes and what waits in a cycle and what is stored, steps 1 and 2 of a cycle in "The plain machine", with
+-- questions 8 and 9.
 use mathlib.Core.Bool.{Bool, true, false, cond, not, _&&_, _||_}
 use mathlib.Core.List.{List, [], _∷_}
+use mathlib.Core.Option.{Option, none, some}
 use Prim.Native.Nat.{ℕ}
 use lib.Dec.{eqb, leb}
 use lib.ListN.{length, getD, set}
@@ -27,9 +29,15 @@ isOut IN = false
 isOut OUT = true
 isOut DLY = false
 
-abbrev pub headOr : ℕ → List ℕ → ℕ
-headOr d [] = d
-headOr d (x ∷ xs) = x
+-- The expression of the first of these OUT.
+abbrev pub sentBy : List ℕ → List ℕ → Option ℕ
+sentBy nodes [] = none
+sentBy nodes (j ∷ js) = some (bAt nodes j)
+
+-- Variable v gets the value that the table has for an expression. Where there is no expression, nothing is stored.
+abbrev pub storeValue : List ℕ → List ℕ → ℕ → Option ℕ → List ℕ
+storeValue table values v none = values
+storeValue table values v (some e) = set values v (getD table e 0)
 
 abbrev pub isEmpty : List ℕ → Bool
 isEmpty xs = eqb (length xs) 0
@@ -43,36 +51,34 @@ module _ (P : Program) (marks : List ℕ) where
   abbrev pub markedOn : (Leaf → Bool) → ℕ → List ℕ
   markedOn f channel = filter (λ j. isKind f j && eqb (aAt (P .nodes) j) channel) (active marks)
 
-  -- "ASG and DLY complete. IN and OUT complete when the other is marked on the same channel; alone they wait."
+  -- A marked IN or OUT waits while its channel has no partner for it. Every other marked leaf completes.
   unfoldable pub waits : ℕ → Bool
   waits i =
       isKind isIn i && isEmpty (markedOn isOut (aAt (P .nodes) i))
       || isKind isOut i && isEmpty (markedOn isIn (aAt (P .nodes) i))
 
-  abbrev pub completing : List ℕ
-  completing = filter (λ i. not (waits i)) (active marks)
-
-  -- ---- question 8: "Has no channel two marked IN or two marked OUT?"
+  -- ---- question 8: at most one IN and one OUT for each channel
   unfoldable pub channelsFree : Bool
   channelsFree =
       every (λ c. leb (length (markedOn isIn c)) 1 && leb (length (markedOn isOut c)) 1) (below (P .channels))
 
-  -- "Completing ASG and IN then store": an ASG to variable a, an IN to variable b.
+  -- Of the leaves that complete, ASG and IN store: an ASG to variable a, an IN to variable b.
   abbrev pub stores : ℕ → Bool
   stores i = not (waits i) && (isKind isAsg i || isKind isIn i)
 
   abbrev pub target : ℕ → ℕ
   target i = cond (isKind isAsg i) (aAt (P .nodes) i) (bAt (P .nodes) i)
 
-  -- The expression whose value is stored: an ASG's own, an IN's from the OUT marked on its channel.
-  abbrev pub source : ℕ → ℕ
-  source i = bAt (P .nodes) (cond (isKind isAsg i) i (headOr i (markedOn isOut (aAt (P .nodes) i))))
+  -- The expression whose value is stored: an ASG's own, for an IN that of the OUT marked on its channel. An IN alone
+  -- has none.
+  abbrev pub source : ℕ → Option ℕ
+  source i = cond (isKind isAsg i) (some (bAt (P .nodes) i)) (sentBy (P .nodes) (markedOn isOut (aAt (P .nodes) i)))
 
-  -- ---- question 9: "Do no two completing leaves store to one variable, equal values included?"
+  -- ---- question 9: at most one store to each variable, whatever the values
   unfoldable pub targetsApart : Bool
   targetsApart =
       every (λ v. leb (length (filter (λ i. stores i && eqb (target i) v) (active marks))) 1) (below (P .variables))
 
   -- The one place that stores: entry i's store, where `table` has the right sides' values.
   unfoldable pub store : List ℕ → List ℕ → ℕ → List ℕ
-  store table values i = cond (stores i) (set values (target i) (getD table (source i) 0)) values
+  store table values i = cond (stores i) (storeValue table values (target i) (source i)) values

@@ -1,4 +1,5 @@
--- "One cycle from a state with marks", by the entries of the book for it, folded over as they come.
+-- One cycle, the three steps of "The plain machine", with questions 7 to 10. It goes over the entries of the book for
+-- it as they come.
 use mathlib.Core.Bool.{Bool, false, cond, not, _&&_}
 use mathlib.Core.List.{List, [], _∷_, foldl}
 use Prim.Native.Nat.{ℕ}
@@ -12,32 +13,32 @@ use Rattle.semantics.specs.State.{State, marked, markCount}
 use Rattle.semantics.specs.Walk.{Walk, mark, leave}
 use Rattle.semantics.specs.Completion.{waits, channelsFree, targetsApart, store}
 
--- ---- question 7: "Are there m entries left, and are they the marked nodes, each once?"
+-- ---- question 7: the entries are as many as there are marks, all marked, and none stands twice
 unfoldable pub areActive : List ℕ → List ℕ → Bool
 areActive marks entries = eqb (length entries) (markCount marks) && every (marked marks) entries && distinct entries
 
 -- A refused cycle has its question's number; a worked one leaves a state.
 pub data Outcome : Type 0 where
   refused : ℕ → Outcome
-  worked : State → Outcome
+  advancesTo : State → Outcome
 
 abbrev pub answered : ℕ → State → Outcome
-answered q s = cond (eqb q 0) (worked s) (refused q)
+answered q s = cond (eqb q 0) (advancesTo s) (refused q)
 
 module _ (P : Program) (s : State) where
-  -- "All right sides are worked in the old values. Completing ASG and IN then store together."
+  -- Step 2: every store takes its value from the table worked in the values before the cycle.
   unfoldable pub newValues : List ℕ → List ℕ
   newValues entries = foldl (store P (s .marks) (exprValues (P .exprs) (s .values))) (s .values) entries
 
-  -- "All marks are cleared."
+  -- Step 3 starts with no mark, and with the thread counts as they stand.
   abbrev pub cleared : Walk
   cleared = record { marks = replicate (nodeCount (P .nodes)) 0; counts = s .counts; looped = false }
 
-  -- "a waiting leaf marks itself; a completing leaf is left"
+  -- One entry of step 3: a leaf that waits is marked again, one that completes is left.
   unfoldable pub visit : (ℕ → Bool) → Walk → ℕ → Walk
   visit holds w i = cond (waits P (s .marks) i) (mark i w) (leave holds (P .nodes) i w)
 
-  -- "In the book's order .. with conditions read in the new values."
+  -- All entries, with conditions read in the values after the stores.
   unfoldable pub walked : List ℕ → List ℕ → Walk
   walked values entries = foldl (visit (isTrue P values)) cleared entries
 

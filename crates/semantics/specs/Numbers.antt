@@ -1,8 +1,8 @@
--- Tests and searches over lists of numbers, for the words "every", "any", "each once" of the rules.
+-- Tests, searches and sums over numbers, for words of the rules such as every, any and each once.
 use mathlib.Core.Bool.{Bool, true, false, cond, not, _&&_, _||_}
 use mathlib.Core.List.{List, [], _∷_}
 use mathlib.Core.Option.{Option, none, some}
-use Prim.Native.Nat.{ℕ, zero, suc}
+use Prim.Native.Nat.{ℕ, zero, suc, _+_}
 use lib.Dec.{eqb}
 
 -- n numbers from i on: i, i + 1, ..
@@ -36,6 +36,11 @@ find f (x ∷ xs) = let later = find f xs in cond (f x) (some x) later
 
 abbrev pub member : ℕ → List ℕ → Bool
 member x xs = any (eqb x) xs
+
+-- f 0, f 1, .. added up for the numbers below n
+unfoldable pub total : (ℕ → ℕ) → ℕ → ℕ
+total f zero = 0
+total f (suc n) = f 0 + total (λ k. f (suc k)) n
 
 -- no number stands twice in the list
 unfoldable pub distinct : List ℕ → Bool

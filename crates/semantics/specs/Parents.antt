@@ -1,4 +1,4 @@
--- Parent, children and depth of a node, for any node list, also one that question 3 refuses.
+-- Parent, children and depth of a node ("Program lists"), for any node list, also one that question 3 refuses.
 use mathlib.Core.Bool.{Bool, false, cond}
 use mathlib.Core.List.{List, [], _∷_}
 use mathlib.Core.Option.{Option, none, some}
@@ -13,7 +13,7 @@ unfoldable pub parentBelow : List ℕ → ℕ → ℕ → Option ℕ
 parentBelow nodes i zero = none
 parentBelow nodes i (suc h) = let lower = parentBelow nodes i h in cond (ltb i (endAt nodes h)) (some h) lower
 
--- "The parent of node i is the greatest node h below i whose end is above i."
+-- The parent: the nearest earlier node that has not ended at i.
 abbrev pub parent : List ℕ → ℕ → Option ℕ
 parent nodes i = parentBelow nodes i i
 
@@ -29,7 +29,7 @@ ancestorsBelow nodes i (suc h) =
 abbrev pub ancestors : List ℕ → ℕ → List ℕ
 ancestors nodes i = ancestorsBelow nodes i i
 
--- "Depth counts a node and all above it": one more than the parent's depth.
+-- The depth of a node without a parent is 1, of any other one more than its parent's.
 abbrev pub depth : List ℕ → ℕ → ℕ
 depth nodes i = suc (length (ancestors nodes i))
 

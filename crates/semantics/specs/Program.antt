@@ -1,4 +1,5 @@
--- "Program lists": flat lists of words, read as records of three words (expressions) and of five words (nodes).
+-- The program, from the section "Program lists" of the rules document: flat lists of words, read as records of three
+-- words (expressions) and of five words (nodes).
 use mathlib.Core.Bool.{Bool, true, false, cond}
 use mathlib.Core.List.{List}
 use Prim.Native.Nat.{ℕ, _+_, _*_, _/_}
@@ -27,7 +28,7 @@ pub data Op : Type 0 where
   BINARY : Binary → Op
   UNKNOWN : Op
 
--- "Ops: 0 the number p; 1 variable p; 2 p+q; 3 p−q; 4 p times q; 5 bitwise and; 6 equality; 7 p below q"
+-- The op of an expression's first word.
 unfoldable pub opOf : ℕ → Op
 opOf w =
     cond (eqb w 0) NUMBER
@@ -54,7 +55,7 @@ qAt exprs i = getD exprs (3 * i + 2) 0
 abbrev pub nodeCount : List ℕ → ℕ
 nodeCount nodes = length nodes / 5
 
--- "Kinds 3, 4, 5 and 8 are leaves": the atomic statements.
+-- The kinds with no child: the atomic statements.
 pub data Leaf : Type 0 where
   ASG IN OUT DLY : Leaf
 
@@ -63,7 +64,7 @@ pub data Kind : Type 0 where
   LEAF : Leaf → Kind
   UNKNOWN : Kind
 
--- "Kinds: 1 SEQ, 2 PAR, 3 ASG, 4 IN, 5 OUT, 6 IF, 7 WHL, 8 DLY"
+-- The kind of a node's first word.
 unfoldable pub kindOf : ℕ → Kind
 kindOf w =
     cond (eqb w 1) SEQ

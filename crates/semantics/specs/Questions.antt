@@ -1,4 +1,4 @@
--- "Questions in order": a no gives the number; 0 means none was no.
+-- How a call answers, from the section "Questions in order": with the number of the first question answered no, or 0.
 use mathlib.Core.Bool.{Bool, cond}
 use mathlib.Core.List.{List, [], _∷_}
 use Prim.Native.Nat.{ℕ}

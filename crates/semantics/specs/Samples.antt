@@ -1,5 +1,5 @@
--- "Sample papers": the cases that 01 marks with a star, and one more, as one list. Each begins and then runs, through
--- all the questions, as the calls do; `proofs/SamplesPass.antt` has the theorem on the list.
+-- The papers of the section "Sample papers" that are to be proved, and three more, as one list. Each begins and then
+-- runs, through all the questions, as the calls do; `proofs/Run/SamplesPass.antt` has the theorem on the list.
 use mathlib.Core.Bool.{Bool, true, false, _&&_}
 use mathlib.Core.List.{List, [], _∷_, _++_}
 use Prim.Native.Nat.{ℕ}
@@ -42,9 +42,9 @@ lent p =
 -- Run starts from what begin left.
 abbrev pub passes : Paper → Bool
 passes p =
-    let begun = beginAnswer (p .program) (lent p) in
-    eqb (checkNumber (p .program)) (p .check) && sameAnswer begun (p .begin)
-    && sameAnswer (runAnswer (p .program) (p .cycles) (begun .state) (p .book)) (p .run)
+    let begunAnswer = beginAnswer (p .program) (lent p) in
+    eqb (checkNumber (p .program)) (p .check) && sameAnswer begunAnswer (p .begin)
+    && sameAnswer (runAnswer (p .program) (p .cycles) (begunAnswer .state) (p .book)) (p .run)
 
 abbrev pub allPass : List Paper → Bool
 allPass [] = true
@@ -122,6 +122,18 @@ loopLater =
 abbrev pub inputAlone : Program
 inputAlone = program (expr 0 1 0) (node 2 65535 3 0 0 ++ node 4 0 2 0 0 ++ node 3 0 3 0 0) 1 1
 
+-- PAR{v0:=0; WHL v0 {DLY}}
+abbrev pub storedCondition : Program
+storedCondition =
+    program (expr 0 0 0 ++ expr 1 0 0) (node 2 65535 4 0 0 ++ node 3 0 2 0 0 ++ node 7 0 4 1 0 ++ node 8 2 4 0 0) 1 0
+
+-- SEQ{PAR{DLY; SEQ{DLY; DLY}}; DLY}
+abbrev pub unevenThreads : Program
+unevenThreads =
+    program []
+    (node 1 65535 7 0 0 ++ node 2 0 6 0 0 ++ node 8 1 3 0 0 ++ node 1 1 6 0 0 ++ node 8 3 5 0 0 ++ node 8 3 6 0 0
+    ++ node 8 0 7 0 0) 0 0
+
 -- ---- the list
 
 abbrev pub swapBegun : Answer
@@ -142,49 +154,57 @@ twoAgain = gives 0 1 [] (0 ∷ 0 ∷ 1 ∷ 1 ∷ []) (0 ∷ 2 ∷ 0 ∷ 0 ∷ []
 
 unfoldable pub samples : List Paper
 samples =
-    -- * one DLY, run 5, book 0: worked 1, ended
+    -- a DLY takes one cycle, and then nothing is marked
     paper delay [] 5 (0 ∷ []) (gives 0 0 [] (1 ∷ []) (0 ∷ [])) (gives 0 1 [] (0 ∷ []) (0 ∷ []))
-    -- * the swap, book 1,2 or 2,1: values 7, 3, ended
+    -- the swap, by a book in either order
     ∷ paper swap (3 ∷ 7 ∷ []) 5 (1 ∷ 2 ∷ []) swapBegun (gives 0 1 (7 ∷ 3 ∷ []) (0 ∷ 0 ∷ 0 ∷ []) (0 ∷ 0 ∷ 0 ∷ []))
     ∷ paper swap (3 ∷ 7 ∷ []) 5 (2 ∷ 1 ∷ []) swapBegun (gives 0 1 (7 ∷ 3 ∷ []) (0 ∷ 0 ∷ 0 ∷ []) (0 ∷ 0 ∷ 0 ∷ []))
-    -- * the same, book 1,1 or book 1: number 7, worked 0
+    -- the swap, by a book that names one node twice, and by one that is too short
     ∷ paper swap (3 ∷ 7 ∷ []) 5 (1 ∷ 1 ∷ []) swapBegun swapRefused
     ∷ paper swap (3 ∷ 7 ∷ []) 5 (1 ∷ []) swapBegun swapRefused
-    -- * two stores of 1 to v0: number 9
+    -- two stores to one variable, of equal values
     ∷ paper sameTarget (0 ∷ []) 5 (1 ∷ 2 ∷ [])
     (gives 0 0 (0 ∷ []) (0 ∷ 1 ∷ 1 ∷ []) (2 ∷ 0 ∷ 0 ∷ []))
     (gives 9 0 (0 ∷ []) (0 ∷ 1 ∷ 1 ∷ []) (2 ∷ 0 ∷ 0 ∷ []))
-    -- * a hand-over on c0: marks 1,3; after one cycle 1,4; after two v0 = 5, ended
+    -- a hand-over on a channel: begun, after its first cycle, and to its end
     ∷ paper handover (0 ∷ []) 0 [] handoverBegun handoverBegun
     ∷ paper handover (0 ∷ []) 1 (1 ∷ 3 ∷ []) handoverBegun
     (gives 0 1 (0 ∷ []) (0 ∷ 1 ∷ 0 ∷ 0 ∷ 1 ∷ []) (2 ∷ 0 ∷ 0 ∷ 0 ∷ 0 ∷ []))
     ∷ paper handover (0 ∷ []) 5 (1 ∷ 3 ∷ 1 ∷ 4 ∷ []) handoverBegun
     (gives 0 2 (5 ∷ []) (0 ∷ 0 ∷ 0 ∷ 0 ∷ 0 ∷ []) (0 ∷ 0 ∷ 0 ∷ 0 ∷ 0 ∷ []))
-    -- * two IN on c0: number 8, no OUT needed
+    -- two IN on one channel, with no OUT
     ∷ paper twoInputs (0 ∷ []) 5 (1 ∷ 2 ∷ [])
     (gives 0 0 (0 ∷ []) (0 ∷ 1 ∷ 1 ∷ []) (2 ∷ 0 ∷ 0 ∷ []))
     (gives 8 0 (0 ∷ []) (0 ∷ 1 ∷ 1 ∷ []) (2 ∷ 0 ∷ 0 ∷ []))
-    -- * WHL 1 {WHL 0 {DLY}}: begin gives 10 and leaves the lists as they were, which run then refuses
+    -- a zero-time loop at once: begin leaves the lists as they were, which run then refuses
     ∷ paper loopAtOnce [] 5 []
     (gives 10 0 [] (1 ∷ 1 ∷ 1 ∷ []) (9 ∷ 9 ∷ 9 ∷ []))
     (gives 6 0 [] (1 ∷ 1 ∷ 1 ∷ []) (9 ∷ 9 ∷ 9 ∷ []))
-    -- * PAR of two WHL 0 {DLY}: begin gives 0, no mark, count 0
+    -- a PAR whose children finish at once
     ∷ paper nothingToDo [] 5 []
     (gives 0 0 [] (0 ∷ 0 ∷ 0 ∷ 0 ∷ 0 ∷ []) (0 ∷ 0 ∷ 0 ∷ 0 ∷ 0 ∷ []))
     (gives 0 0 [] (0 ∷ 0 ∷ 0 ∷ 0 ∷ 0 ∷ []) (0 ∷ 0 ∷ 0 ∷ 0 ∷ 0 ∷ []))
-    -- * WHL 1 {PAR{DLY; DLY}}: after a cycle in either order marks 2,3 and count 2 at node 1
+    -- a PAR in a loop comes back to where it began, by a book in either order
     ∷ paper twoThreads [] 1 (2 ∷ 3 ∷ []) twoBegun twoAgain
     ∷ paper twoThreads [] 1 (3 ∷ 2 ∷ []) twoBegun twoAgain
-    -- * WHL v0 {v0:=v0−1}, v0 = 1: after one cycle v0 = 0, ended
+    -- a countdown from 1: the loop reads its condition after the store
     ∷ paper countdown (1 ∷ []) 5 (1 ∷ [])
     (gives 0 0 (1 ∷ []) (0 ∷ 1 ∷ []) (0 ∷ 0 ∷ []))
     (gives 0 1 (0 ∷ []) (0 ∷ 0 ∷ []) (0 ∷ 0 ∷ []))
-    -- * WHL 1 {SEQ{WHL v0 {v0:=0}}}, v0 = 1: begin 0; run gives 10, worked 0, v0 still 1
+    -- a zero-time loop in the first cycle: the cycle is refused, and v0 keeps its value
     ∷ paper loopLater (1 ∷ []) 5 (3 ∷ [])
     (gives 0 0 (1 ∷ []) (0 ∷ 0 ∷ 0 ∷ 1 ∷ []) (0 ∷ 0 ∷ 0 ∷ 0 ∷ []))
     (gives 10 0 (1 ∷ []) (0 ∷ 0 ∷ 0 ∷ 1 ∷ []) (0 ∷ 0 ∷ 0 ∷ 0 ∷ []))
-    -- not of 01: a waiting IN stores nothing, so that question 9 is answered yes
+    -- not of the rules document: a waiting IN stores nothing, so that question 9 is answered yes
     ∷ paper inputAlone (0 ∷ []) 1 (1 ∷ 2 ∷ [])
     (gives 0 0 (0 ∷ []) (0 ∷ 1 ∷ 1 ∷ []) (2 ∷ 0 ∷ 0 ∷ []))
     (gives 0 1 (1 ∷ []) (0 ∷ 1 ∷ 0 ∷ []) (1 ∷ 0 ∷ 0 ∷ []))
+    -- nor this: a loop reads what another thread stores in the same cycle, though its own entry comes first
+    ∷ paper storedCondition (1 ∷ []) 5 (3 ∷ 1 ∷ [])
+    (gives 0 0 (1 ∷ []) (0 ∷ 1 ∷ 0 ∷ 1 ∷ []) (2 ∷ 0 ∷ 0 ∷ 0 ∷ []))
+    (gives 0 1 (0 ∷ []) (0 ∷ 0 ∷ 0 ∷ 0 ∷ []) (0 ∷ 0 ∷ 0 ∷ 0 ∷ []))
+    -- nor this: a PAR with a thread left is not left
+    ∷ paper unevenThreads [] 1 (2 ∷ 4 ∷ [])
+    (gives 0 0 [] (0 ∷ 0 ∷ 1 ∷ 0 ∷ 1 ∷ 0 ∷ 0 ∷ []) (0 ∷ 2 ∷ 0 ∷ 0 ∷ 0 ∷ 0 ∷ 0 ∷ []))
+    (gives 0 1 [] (0 ∷ 0 ∷ 0 ∷ 0 ∷ 0 ∷ 1 ∷ 0 ∷ []) (0 ∷ 1 ∷ 0 ∷ 0 ∷ 0 ∷ 0 ∷ 0 ∷ []))
     ∷ []

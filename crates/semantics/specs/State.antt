@@ -1,4 +1,4 @@
--- "State and book": the three lists, and questions 5 and 6.
+-- The state, from the section "State and book": the three lists, and questions 5 and 6 of them.
 use mathlib.Core.Bool.{Bool, false, cond, _&&_, _||_}
 use mathlib.Core.List.{List, [], _∷_}
 use Prim.Native.Nat.{ℕ}
@@ -8,7 +8,7 @@ use Rattle.semantics.specs.Numbers.{below, every, any, filter, member}
 use Rattle.semantics.specs.Program.{Program, nodeCount, kindAt, endAt, isLeaf, isPar}
 use Rattle.semantics.specs.Parents.{ancestors, isChild}
 
--- "Three lists: V values; N marks (1 = active, else 0); N thread counts."
+-- A value for each variable; a mark for each node, 1 where it is active; a thread count for each node.
 pub record State : Type 0 where
   pub values : List ℕ
   pub marks : List ℕ
@@ -17,33 +17,35 @@ pub record State : Type 0 where
 abbrev pub marked : List ℕ → ℕ → Bool
 marked marks i = eqb (getD marks i 0) 1
 
--- "The active statements are the marked nodes."
+-- The active statements, in the order of the node list.
 abbrev pub active : List ℕ → List ℕ
 active marks = filter (marked marks) (below (length marks))
 
--- m, "the number of marks"
+-- m, how many nodes are marked
 abbrev pub markCount : List ℕ → ℕ
 markCount marks = length (active marks)
 
--- "No mark at all is an ended state."
+-- A state has ended where no node is marked.
 abbrev pub ended : State → Bool
 ended s = eqb (markCount (s .marks)) 0
 
--- ---- question 5: "Do the lent state lists have lengths V, N and N?"
-unfoldable pub fits : Program → State → Bool
-fits P s =
+-- ---- question 5: the lengths are V, N and N
+unfoldable pub lengthsOk : Program → State → Bool
+lengthsOk P s =
     eqb (length (s .values)) (P .variables) && eqb (length (s .marks)) (nodeCount (P .nodes))
     && eqb (length (s .counts)) (nodeCount (P .nodes))
 
--- ---- question 6: "A state is well formed when every mark is 0 or 1,
+-- ---- question 6: the state is well formed, which has four parts
+
+-- First, no mark is above 1.
 unfoldable pub marksAreBits : List ℕ → Bool
 marksAreBits marks = every (λ m. leb m 1) marks
 
--- only leaves are marked,
+-- Second, every marked node is a leaf.
 unfoldable pub leavesMarked : List ℕ → List ℕ → Bool
 leavesMarked nodes marks = every (λ i. isLeaf (kindAt nodes i)) (active marks)
 
--- any two marked leaves have a PAR as their lowest common ancestor,
+-- Third, of any two marked leaves the nearest node above both is a PAR.
 abbrev pub commonAncestors : List ℕ → ℕ → ℕ → List ℕ
 commonAncestors nodes i j = filter (λ h. member h (ancestors nodes j)) (ancestors nodes i)
 
@@ -55,7 +57,8 @@ unfoldable pub pairsMeetInPar : List ℕ → List ℕ → Bool
 pairsMeetInPar nodes marks =
     every (λ i. every (λ j. eqb i j || firstIsPar nodes (commonAncestors nodes i j)) (active marks)) (active marks)
 
--- each PAR counts its children with a marked leaf at or below them, and every other count is 0."
+-- Fourth, a PAR's count is the number of its children that are marked or have a mark below them, and any other node's
+-- count is 0.
 unfoldable pub holdsMark : List ℕ → List ℕ → ℕ → Bool
 holdsMark nodes marks k = any (λ j. leb k j && ltb j (endAt nodes k)) (active marks)
 

@@ -1,4 +1,5 @@
--- The statement tree of a node list, built right to left: "a node with all below it is one unbroken part of the list".
+-- The statement tree of a node list ("Program lists"), built right to left: the nodes below a node are those that
+-- follow it up to its end.
 use mathlib.Core.Bool.{cond}
 use mathlib.Core.List.{List}
 use Prim.Native.Nat.{ℕ, zero, suc, _-_}
@@ -26,14 +27,14 @@ start (par i ks) = i
 start (ife i e ys ns) = i
 start (whl i e ks) = i
 
--- The statements at the front that start below e; the others.
+-- The statements at the front that start below node number `end`; the others.
 unfoldable pub startBelow : ℕ → Stmts → Stmts
-startBelow e nil = nil
-startBelow e (cons k ks) = let rest = startBelow e ks in cond (ltb (start k) e) (cons k rest) nil
+startBelow end nil = nil
+startBelow end (cons k ks) = let rest = startBelow end ks in cond (ltb (start k) end) (cons k rest) nil
 
 unfoldable pub startFrom : ℕ → Stmts → Stmts
-startFrom e nil = nil
-startFrom e (cons k ks) = let rest = startFrom e ks in cond (ltb (start k) e) rest (cons k ks)
+startFrom end nil = nil
+startFrom end (cons k ks) = let rest = startFrom end ks in cond (ltb (start k) end) rest (cons k ks)
 
 -- The first statement alone; those after it.
 abbrev pub first : Stmts → Stmts
@@ -62,9 +63,13 @@ forest nodes (suc n) i =
     cons (statementOf (kindAt nodes i) i (aAt nodes i) (startBelow (endAt nodes i) after))
     (startFrom (endAt nodes i) after)
 
--- The statements from node i up to e: from a child of a node to the node's end, the rest of its children.
+-- The statements from node i up to an end.
 unfoldable pub statements : List ℕ → ℕ → ℕ → Stmts
-statements nodes i e = startBelow e (forest nodes (nodeCount nodes - i) i)
+statements nodes i end = startBelow end (forest nodes (nodeCount nodes - i) i)
+
+-- The children of node h from node j on: all of them from the node after h, the rest of them from where a child ends.
+abbrev pub childrenFrom : List ℕ → ℕ → ℕ → Stmts
+childrenFrom nodes j h = statements nodes j (endAt nodes h)
 
 -- An empty list has no node 0: question 1 refuses it.
 abbrev pub root : Stmts → Stmt

@@ -1,0 +1,81 @@
+-- Laws of `firstNo`: it is 0 exactly when every question is answered yes. So an accepted program has its sizes within
+-- the limits, and each expression, node and range is ok.
+use mathlib.Core.Path.{_≡_, refl, sym, _∙_}
+use mathlib.Core.Bool.{Bool, true, false, cond, not, _&&_, true≢false}
+use mathlib.Core.List.{List, [], _∷_, _++_}
+use Prim.Native.Nat.{_%_}
+use lib.Dec.{eqb, leb}
+use lib.ListN.{length}
+use borrow.Author.Tests.{eqb-true, eq-eqb, leb-true, not-true}
+use Rattle.semantics.specs.Program.{Program, exprCount, nodeCount}
+use Rattle.semantics.specs.Questions.{Question, firstNo}
+use Rattle.semantics.specs.Check.{sizesOk, exprOk, nodeOk, referencesOk, checkQuestions, checkNumber}
+use Rattle.semantics.specs.Facts.{Accepted, Sized}
+use Rattle.semantics.proofs.Lists.Logic.{and-left, and-right, conjuncts}
+use Rattle.semantics.proofs.Lists.NumberLaws.{every-below}
+
+-- ---- lists of questions
+
+-- no question has the number 0: `refl` for a list that is written out
+abbrev pub numbered : List Question → Bool
+numbered [] = true
+numbered (q ∷ qs) = not (eqb (q .number) 0) && numbered qs
+
+abbrev pub AllYes : List Question → Type 0
+AllYes [] = Unit {0}
+AllYes (q ∷ qs) = (q .yes ≡ true) × AllYes qs
+
+pub all-yes : (qs : List Question) → AllYes qs → firstNo qs ≡ 0
+all-yes [] a = refl
+all-yes (q ∷ qs) a = rw (a .0) (all-yes qs (a .1))
+
+pub yes-all : (qs : List Question) → numbered qs ≡ true → firstNo qs ≡ 0 → AllYes qs
+yes-all [] n h = tt
+yes-all (q ∷ qs) n h = pick (q .yes) refl h (yes-all qs (and-right (not (eqb (q .number) 0)) _ n))
+  where
+    pick : (b : Bool) → q .yes ≡ b → cond b (firstNo qs) (q .number) ≡ 0 → (firstNo qs ≡ 0 → AllYes qs)
+        → AllYes (q ∷ qs)
+    pick true e z rec = (e, rec z)
+    pick false e z rec =
+        absurd (true≢false (sym (eq-eqb _ 0 z) ∙ not-true _ (and-left (not (eqb (q .number) 0)) _ n)))
+
+-- the questions ps, and where none of them is answered no, the questions qs
+pub firstNo-append : (ps qs : List Question) → numbered ps ≡ true
+    → firstNo (ps ++ qs) ≡ cond (eqb (firstNo ps) 0) (firstNo qs) (firstNo ps)
+firstNo-append [] qs n = refl
+firstNo-append (p ∷ ps) qs n = pick (p .yes) (firstNo-append ps qs (and-right (not (eqb (p .number) 0)) _ n))
+  where
+    pick : (b : Bool) → firstNo (ps ++ qs) ≡ cond (eqb (firstNo ps) 0) (firstNo qs) (firstNo ps)
+        → cond b (firstNo (ps ++ qs)) (p .number)
+        ≡ cond (eqb (cond b (firstNo ps) (p .number)) 0) (firstNo qs) (cond b (firstNo ps) (p .number))
+    pick true rec = rec
+    pick false rec = rw (not-true (eqb (p .number) 0) (and-left (not (eqb (p .number) 0)) _ n))
+
+-- ---- question 1
+pub sized-limits : (P : Program) → sizesOk P ≡ true → Sized P
+unfolding sizesOk
+sized-limits P h =
+    let (exprs, (nodes, (least, (most, (es, (vs, (cs, _))))))) = conjuncts (eqb (length (P .exprs) % 3) 0)
+    (eqb (length (P .nodes) % 5) 0 ∷ leb 1 (nodeCount (P .nodes)) ∷ leb (nodeCount (P .nodes)) 1024
+    ∷ leb (exprCount (P .exprs)) 1024 ∷ leb (P .variables) 256 ∷ leb (P .channels) 256 ∷ []) h in
+    record {
+      wholeExprs = eqb-true _ _ exprs;
+      wholeNodes = eqb-true _ _ nodes;
+      someNode = leb-true _ _ least;
+      nodesFit = leb-true _ _ most;
+      exprsFit = leb-true _ _ es;
+      variablesFit = leb-true _ _ vs;
+      channelsFit = leb-true _ _ cs;
+    }
+
+-- ---- questions 1 to 4
+pub accepted : (P : Program) → checkNumber P ≡ 0 → Accepted P
+unfolding checkNumber
+accepted P h =
+    let (size, (exprs, (nodes, (ranges, _)))) = yes-all (checkQuestions P) refl h in
+    record {
+      sizes = sized-limits P size;
+      exprsOk = every-below (exprOk P) (exprCount (P .exprs)) exprs;
+      nodesOk = every-below (nodeOk (P .nodes)) (nodeCount (P .nodes)) nodes;
+      rangesOk = every-below (referencesOk P) (nodeCount (P .nodes)) ranges;
+    }

@@ -1,0 +1,74 @@
+-- What is proved of the rules: every end theorem with its statement in full. Each is proved in the file that its proof
+-- names; all names in the statements are definitions of specs/.
+use mathlib.Core.Path.{_≡_}
+use mathlib.Core.Bool.{true}
+use mathlib.Core.List.{List}
+use mathlib.Core.Logic.{_↔_, _≢_}
+use mathlib.Core.Option.{none, some}
+use Prim.Native.Nat.{ℕ, _+_, _≤_, _<_}
+use lib.ListN.{take}
+use Rattle.semantics.specs.Program.{Program}
+use Rattle.semantics.specs.Check.{checkNumber}
+use Rattle.semantics.specs.State.{State, lengthsOk, wellFormed}
+use Rattle.semantics.specs.Facts.{Ready}
+use Rattle.semantics.specs.Run.{run}
+use Rattle.semantics.specs.Calls.{beginAnswer, runAnswer}
+use Rattle.semantics.specs.Book.{entriesAsked, firstWrong}
+use Rattle.semantics.specs.Samples.{samples, allPass}
+use Rattle.semantics.proofs.Run.SamplesPass
+use Rattle.semantics.proofs.Order.OrderRule
+use Rattle.semantics.proofs.Order.RunTheorems
+
+-- The order rule. For an accepted program and a state that questions 5 and 6 let by, two books give equal answers of
+-- run (number, cycles worked and the three lists) exactly when both first go wrong at the same cycle, or neither goes
+-- wrong.
+pub order-rule : (P : Program) → checkNumber P ≡ 0
+    → (s : State) → lengthsOk P s ≡ true → wellFormed P s ≡ true
+    → (n : ℕ) (b d : List ℕ)
+    → (runAnswer P n s b ≡ runAnswer P n s d) ↔ (firstWrong P n s b ≡ firstWrong P n s d)
+order-rule = OrderRule.order-rule
+
+-- Where begin answers 0, questions 5 and 6 let the state by that it leaves.
+pub begun-ready : (P : Program) (s : State) → beginAnswer P s .number ≡ 0 → Ready P (beginAnswer P s .state)
+begun-ready = RunTheorems.begun-ready
+
+-- From such a state every number of cycles leads to such a state, so that run may be called again with what it left.
+pub run-ready : (P : Program) → checkNumber P ≡ 0 → (s : State) → Ready P s
+    → (n : ℕ) (book : List ℕ) → Ready P (runAnswer P n s book .state)
+run-ready = RunTheorems.run-ready
+
+-- A book that first goes wrong at cycle k is answered with 7 and k cycles worked.
+pub wrong-book : (P : Program) → checkNumber P ≡ 0 → (s : State) → Ready P s
+    → (n : ℕ) (book : List ℕ) (k : ℕ) → firstWrong P n s book ≡ some k
+    → (runAnswer P n s book .number ≡ 7) × (runAnswer P n s book .worked ≡ k)
+wrong-book = RunTheorems.wrong-book
+
+-- A book that never goes wrong is never answered with 7.
+pub right-book : (P : Program) → checkNumber P ≡ 0 → (s : State) → Ready P s
+    → (n : ℕ) (book : List ℕ) → firstWrong P n s book ≡ none → runAnswer P n s book .number ≢ 7
+right-book = RunTheorems.right-book
+
+-- Later entries are not read: where a run asks for at most j entries, any book with the same first j is answered
+-- alike.
+pub entries-read : (P : Program) → checkNumber P ≡ 0 → (s : State) → Ready P s
+    → (n : ℕ) (b d : List ℕ) (j : ℕ) → entriesAsked P n s b ≤ j → take j b ≡ take j d
+    → runAnswer P n s b ≡ runAnswer P n s d
+entries-read = RunTheorems.entries-read
+
+-- Runs compose. Where a run of n cycles works all of them, a run of n + m cycles is that run and then one of m cycles
+-- from the state that it left, with the entries that it left unread.
+pub run-then-run : (P : Program) → checkNumber P ≡ 0 → (s : State) → Ready P s
+    → (n m : ℕ) (book : List ℕ) → runAnswer P n s book .worked ≡ n
+    → (let r = run P n s book in let a = runAnswer P m (r .state) (r .unread) in
+    runAnswer P (n + m) s book ≡ record { number = a .number; worked = n + a .worked; state = a .state })
+run-then-run = RunTheorems.run-then-run
+
+-- Where a run of n cycles works fewer, a run of n + m cycles has the same answer.
+pub run-over : (P : Program) → checkNumber P ≡ 0 → (s : State) → Ready P s
+    → (n m : ℕ) (book : List ℕ) → runAnswer P n s book .worked < n
+    → runAnswer P (n + m) s book ≡ runAnswer P n s book
+run-over = RunTheorems.run-over
+
+-- Check, begin and run answer every sample paper of specs/Samples as written there.
+pub samples-pass : allPass samples ≡ true
+samples-pass = SamplesPass.samples-pass
