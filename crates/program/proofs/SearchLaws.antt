@@ -2,20 +2,20 @@
 use mathlib.Core.Path.{_≡_, sym, subst, _∙_}
 use mathlib.Core.Bool.{Bool, true, false, not, true≢false}
 use mathlib.Core.Logic.{inl, inr}
-use Prim.Native.Nat.{ℕ, _+_, _≤_, _<_, zero-le}
+use Prim.Native.Nat.{ℕ, _+_, _≤_, _<_}
 use native.Mathlib.Omega.{arith}
 use borrow.Author.Tests.{not-true, not-false}
 use Rattle.semantics.specs.Numbers.{below, every}
-use Rattle.semantics.proofs.Logic.{lt-or-le, true-or-false}
-use Rattle.semantics.proofs.NumberLaws.{every-at, every-all}
+use Rattle.semantics.proofs.Lists.Logic.{lt-or-le, true-or-false}
+use Rattle.semantics.proofs.Lists.NumberLaws.{every-below, all-below}
 use Rattle.program.specs.Search.{FirstFault}
 
 module _ (ok : ℕ → Bool) where
   -- r is the code's test of index i
   pub passed-more : (i : ℕ) (r : Bool) → every ok (below i) ≡ true → r ≡ ok i → not r ≡ false
       → every ok (below (i + 1)) ≡ true
-  passed-more i r h e t = every-all ok (i + 1) 0 (λ k l u. elim (lt-or-le k i) [
-    | inl v ↦ every-at ok i 0 k h l (omega arith)
+  passed-more i r h e t = all-below ok (i + 1) (λ k u. elim (lt-or-le k i) [
+    | inl v ↦ every-below ok i h k v
     | inr v ↦ let q : k ≡ i = omega arith in rw q (sym e ∙ not-false r t)
   ])
 
@@ -29,7 +29,7 @@ module _ (ok : ℕ → Bool) where
   -- what a search found, as an answer of the question
   pub found : (count i : ℕ) → FirstFault ok count i → i < count → every ok (below count) ≡ false
   found count i f l = elim (true-or-false (every ok (below count))) [
-    | inl e ↦ absurd (true≢false (sym (every-at ok count 0 i e zero-le (omega arith)) ∙ f .fault l))
+    | inl e ↦ absurd (true≢false (sym (every-below ok count e i l) ∙ f .fault l))
     | inr e ↦ e
   ]
 

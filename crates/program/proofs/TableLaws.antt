@@ -16,28 +16,18 @@ use borrow.Author.Tests.{eq-eqb, ne-eqb, eqb-true, eqb-false}
 use Rattle.semantics.specs.Numbers.{upFrom, below, filter}
 use Rattle.semantics.specs.Program.{nodeCount}
 use Rattle.semantics.specs.Parents.{parent, depth, isNode, children}
-use Rattle.semantics.proofs.Logic.{lt-or-le, true-or-false}
-use Rattle.semantics.proofs.NumberLaws.{count, count-suc, count-add}
-use Rattle.semantics.proofs.ParentLaws.{depth-parent, depth-none}
-use Rattle.semantics.proofs.ParentSearch.{depth-low}
-use Rattle.program.specs.Ranks.{rankOf, parentRank, depthAt, childrenAt, Tables, Place}
+use Rattle.semantics.proofs.Lists.Logic.{lt-or-le, true-or-false}
+use Rattle.semantics.proofs.Lists.NumberLaws.{count, count-suc, count-add, count-most, zeros}
+use Rattle.semantics.proofs.Lists.ParentLaws.{depth-parent, depth-none}
+use Rattle.semantics.proofs.Lists.ParentSearch.{depth-low}
+use Rattle.program.specs.Ranks.{nodeRank, parentRank, depthAt, childrenAt, Tables, Place}
 use Rattle.program.proofs.RankLaws.{parentRank-low}
 
 -- a test of a rank above 0 is a test of its node
-eqb-rank : (o : Option ℕ) (h : ℕ) → eqb (rankOf o) (suc h) ≡ isNode h o
-unfolding rankOf
+eqb-rank : (o : Option ℕ) (h : ℕ) → eqb (nodeRank o) (suc h) ≡ isNode h o
+unfolding nodeRank
 eqb-rank none h = eqb·zero-suc h
 eqb-rank (some g) h = eqb·suc-suc g h
-
--- at most n of n numbers pass a test
-count-few : (f : ℕ → Bool) (n a : ℕ) → count f n a ≤ n
-unfolding filter upFrom
-count-few f zero a = le-refl 0
-count-few f (suc n) a = pick (f a) (count f n (suc a)) (count-suc f n a) (count-few f n (suc a))
-  where
-    pick : (b : Bool) (k : ℕ) → count f (suc n) a ≡ cond b (suc k) k → k ≤ n → count f (suc n) a ≤ suc n
-    pick true k e l = omega arith
-    pick false k e l = omega arith
 
 count-one-more : (f : ℕ → Bool) (n : ℕ) → count f (n + 1) 0 ≡ cond (f n) (count f n 0 + 1) (count f n 0)
 unfolding filter upFrom
@@ -48,12 +38,6 @@ count-one-more f n =
     pick true k = refl
     pick false k = add-zero k
 
-pub zeros : (size i : ℕ) → _≡_ {A = ℕ} (getD (replicate size 0) i 0) 0
-zeros size i = elim (lt-or-le i size) [
-  | inl v ↦ getD-replicate size i 0 0 v
-  | inr v ↦ List·getD-eq-default (replicate size 0) 0 (omega (arith, length-replicate {A = ℕ} size 0))
-]
-
 module _ (nodes : List ℕ) where
   pub depthAt-low : (rank : ℕ) → depthAt nodes rank ≤ rank
   unfolding depthAt
@@ -62,14 +46,14 @@ module _ (nodes : List ℕ) where
 
   pub childrenAt-low : (n rank : ℕ) → childrenAt nodes n rank ≤ n
   unfolding childrenAt
-  childrenAt-low n rank = count-few (λ j. eqb (parentRank nodes j) rank) n 0
+  childrenAt-low n rank = count-most (λ j. eqb (parentRank nodes j) rank) n 0
 
   -- a node is one deeper than what stands above it
   depth-above : (n : ℕ) → depthAt nodes (parentRank nodes n) + 1 ≡ depth nodes n
-  unfolding depthAt rankOf
+  unfolding depthAt nodeRank
   depth-above n = pick (parent nodes n) refl
     where
-      pick : (o : Option ℕ) → parent nodes n ≡ o → depthAt nodes (rankOf o) + 1 ≡ depth nodes n
+      pick : (o : Option ℕ) → parent nodes n ≡ o → depthAt nodes (nodeRank o) + 1 ≡ depth nodes n
       pick none e = sym (depth-none nodes n e)
       pick (some h) e = add-one (depth nodes h) ∙ sym (depth-parent nodes n h e)
 

@@ -1,15 +1,24 @@
--- Laws of the table of values: it has one value for each expression, and each turn of the loop that fills it adds one.
--- Both follow from how `firstValues` goes on from the values before.
-use mathlib.Core.Path.{_≡_, refl, sym, _∙_, subst⁻¹}
-use mathlib.Core.List.{List, _++_}
-use Prim.Native.Nat.{ℕ, zero, suc, _+_, _*_, _^_, _<_}
+-- Laws of values: there is one for each expression, and that of an expression with two operands is its op at their
+-- values. And a product of two words fits twice their bits.
+use mathlib.Core.Path.{_≡_, refl, ap, subst⁻¹}
+use mathlib.Core.Bool.{Bool, true, false, cond}
+use mathlib.Core.Logic.{inl, inr}
+use mathlib.Core.List.{List}
+use Prim.Native.Nat.{ℕ, zero, suc, _+_, _*_, _^_, _≤_, _<_}
 use native.Mathlib.Nat.{le-of-lt, lt-of-le-of-lt, mul-le-mul-left, mul-lt-mul-of-pos-right}
 use native.Mathlib.Numerals.{add-one}
-use lib.ListN.{length, getD, take, drop, set, length-append}
+use native.Mathlib.Omega.{arith}
+use lib.Dec.{eqb}
+use lib.ListN.{length, getD, length-append}
 use lib.Pow.{pow-pos, pow-add}
-use lib.Seq.{drop-cons, take-at, set-at, append-snoc}
-use Rattle.semantics.specs.Program.{opAt, pAt, qAt}
+use borrow.Author.Tests.{ne-eqb}
+use Rattle.semantics.specs.Program.{Op, opOf}
+use Rattle.semantics.specs.Program.Binary.{ADD, SUB, MUL, AND, EQUAL, BELOW}
+use Rattle.semantics.specs.Program.Op.{BINARY, UNKNOWN}
 use Rattle.semantics.specs.Expressions.{valueOf, firstValues}
+use Rattle.semantics.proofs.Lists.Logic.{lt-or-le}
+use Rattle.semantics.proofs.Lists.OpLaws.{op-number, op-variable, op-unknown}
+use Rattle.program.specs.Values.{applied}
 
 -- The product of two numbers of k bits has at most k + k bits.
 pub product-fits : (k : ℕ) {x y : ℕ} → x < 2 ^ k → y < 2 ^ k → x * y < 2 ^ (k + k)
@@ -23,15 +32,31 @@ module _ (exprs values : List ℕ) where
   length-values zero = refl
   length-values (suc n) = simp (length-append, length-values n) (add-one n)
 
-  -- The value of expression i, worked from the part of the table before it and stored: the table has one value more.
-  pub one-more : (table₀ table : List ℕ) (i value : ℕ) → i < length table₀
-      → table ≡ firstValues exprs values i ++ drop i table₀
-      → value ≡ valueOf values (take i table) (opAt exprs i) (pAt exprs i) (qAt exprs i)
-      → set table i value ≡ firstValues exprs values (i + 1) ++ drop (i + 1) table₀
-  unfolding firstValues
-  one-more table₀ table i value lt filled worked =
-      let before = firstValues exprs values i in
-      let len = length-values i in
-      let front : take i table ≡ before = rw filled (take-at before (drop i table₀) i len) in
-      rw (add-one i, filled, drop-cons table₀ i 0 lt, worked, front)
-      (set-at before (getD table₀ i 0) (drop (suc i) table₀) _ i len ∙ sym (append-snoc before _ (drop (suc i) table₀)))
+-- ---- ops by their numbers
+
+-- a number that stands for no op with two operands
+pub no-operands : (w x y : ℕ) → (2 ≤ w → w ≤ 7 → ⊥) → applied (opOf w) x y ≡ 0
+no-operands zero x y h = ap (λ (o : Op). applied o x y) op-number
+no-operands (suc zero) x y h = ap (λ (o : Op). applied o x y) op-variable
+no-operands (suc (suc n)) x y h =
+    elim (lt-or-le 7 (suc (suc n))) [
+      | inl l ↦ ap (λ (o : Op). applied o x y) (op-unknown (suc (suc n)) l)
+      | inr l ↦ absurd (h (omega arith) l)
+    ]
+
+module _ (values before : List ℕ) (p q : ℕ) where
+  -- the value of an expression with that op is the op at its operands' values
+  abbrev ByOperands : Op → Type 0
+  ByOperands o = applied o (getD before p 0) (getD before q 0) ≡ valueOf values before o p q
+
+  either : (b : Bool) (o o′ : Op) → ByOperands o → ByOperands o′ → ByOperands (cond b o o′)
+  either true o o′ h h′ = h
+  either false o o′ h h′ = h′
+
+  pub by-operands : (w : ℕ) → 2 ≤ w → ByOperands (opOf w)
+  unfolding opOf valueOf
+  by-operands w l =
+      rw (ne-eqb w 0 (λ e. omega arith), ne-eqb w 1 (λ e. omega arith))
+      (either (eqb w 2) (BINARY ADD) _ refl (either (eqb w 3) (BINARY SUB) _ refl
+      (either (eqb w 4) (BINARY MUL) _ refl (either (eqb w 5) (BINARY AND) _ refl
+      (either (eqb w 6) (BINARY EQUAL) _ refl (either (eqb w 7) (BINARY BELOW) UNKNOWN refl refl))))))

@@ -9,16 +9,18 @@ use lib.ListN.{length, getD}
 use Rattle.semantics.specs.Numbers.{below, filter}
 use Rattle.semantics.specs.Parents.{parent, depth, children}
 
-unfoldable pub rankOf : Option ℕ → ℕ
-rankOf none = 0
-rankOf (some h) = suc h
+-- The rank of a node, there or not.
+unfoldable pub nodeRank : Option ℕ → ℕ
+nodeRank none = 0
+nodeRank (some h) = suc h
 
+-- The node of a rank.
 unfoldable pub atRank : ℕ → Option ℕ
 atRank zero = none
 atRank (suc h) = some h
 
 abbrev pub parentRank : List ℕ → ℕ → ℕ
-parentRank nodes i = rankOf (parent nodes i)
+parentRank nodes i = nodeRank (parent nodes i)
 
 -- No node has depth 0.
 unfoldable pub depthAt : List ℕ → ℕ → ℕ

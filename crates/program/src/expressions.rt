@@ -1,6 +1,10 @@
 // Question 2: known ops, operands in range, unused words 0.
 use super::VarId;
 use super::names::has_var;
+use super::ops::ADD;
+use super::ops::BELOW;
+use super::ops::NUMBER;
+use super::ops::VARIABLE;
 use super::words::op_word;
 use super::words::p_word;
 use super::words::q_word;
@@ -8,18 +12,18 @@ ghost use mathlib.Core.Path.{_≡_};
 ghost use mathlib.Core.List.{List};
 ghost use Prim.Native.Nat.{ℕ};
 ghost use Rattle.semantics.specs.Program.{opOf};
-ghost use Rattle.semantics.specs.Check.{operandsOk, exprOk};
+ghost use Rattle.semantics.specs.Check.{exprWordsOk, exprOk};
 ghost use Rattle.program.specs.Answer.{programOf};
 ghost use Rattle.program.specs.Search.{FirstFault};
 
 // Operand expressions have lower indices than i.
-fn operands_ok(vars: u16, i: u16, op: u16, p: u16, q: u16) -> bool
-    ensures { λ r. ⌜ r ≡ operandsOk vars i (opOf op) p q ⌝ }
+fn expr_words_ok(vars: u16, i: u16, op: u16, p: u16, q: u16) -> bool
+    ensures { λ r. ⌜ r ≡ exprWordsOk vars i (opOf op) p q ⌝ }
 {
     match op {
-        0 => q == 0,
-        1 => has_var(VarId(p), vars) & (q == 0),
-        2..=7 => (p < i) & (q < i),
+        NUMBER => q == 0,
+        VARIABLE => has_var(VarId(p), vars) & (q == 0),
+        ADD..=BELOW => (p < i) & (q < i),
         _ => false,
     }
 }
@@ -27,7 +31,7 @@ fn operands_ok(vars: u16, i: u16, op: u16, p: u16, q: u16) -> bool
 fn expr_ok(exprs: &[u16], vars: u16, i: u16) -> bool
     ensures { λ r. ⌜ ((nodes : List ℕ) (chans : ℕ) → r ≡ exprOk (programOf (now (exprs .entry)) nodes vars chans) i) ⌝ }
 {
-    operands_ok(
+    expr_words_ok(
         vars,
         i,
         op_word(exprs, i),

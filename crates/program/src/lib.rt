@@ -1,23 +1,23 @@
-// The program lists: what their words mean, which programs are accepted, and the values of their expressions. Tests are
+// The program lists: what their words mean, which programs are accepted, and what the ops of their expressions give. Tests are
 // joined by `&`, which asks all of them: they are cheap, and none depends on another.
 mod expressions; // question 2
+pub mod kinds; // the numbers of the kinds
+pub mod limits; // the limits of an accepted program
 mod names; // variables, channels and expressions of the program
 mod nodes; // question 3 at one node
+pub mod ops; // the numbers of the ops
 mod parents; // parents, depths and numbers of children
 mod ranges; // question 4
 mod sizes; // question 1
 mod tree; // question 3 at all nodes
-mod values; // the values of all expressions
+mod values; // what an op gives
 pub mod words; // the words of the records
 
 use expressions::first_faulty_expr;
 use ranges::first_out_of_range;
 use sizes::sizes_ok;
 use tree::first_faulty_node;
-pub use values::fill_values;
-pub use values::is_true;
-pub use values::value_at;
-pub use values::variable_value;
+pub use values::apply_op;
 ghost use Rattle.program.specs.Answer.{programOf, CheckAnswer};
 
 // The number of a variable. It is a type of its own, as a channel's is, so that neither is taken for the other.

@@ -1,5 +1,4 @@
 // Which numbers name a variable, a channel or an expression of the program.
-use super::ChanId;
 use super::VarId;
 ghost use mathlib.Core.Path.{_≡_};
 ghost use lib.Dec.{ltb};
@@ -11,10 +10,10 @@ pub fn has_var(v: VarId, vars: u16) -> bool
     v.0 < vars
 }
 
-pub fn has_chan(c: ChanId, chans: u16) -> bool
-    ensures { λ r. ⌜ r ≡ ltb (c .0) chans ⌝ }
+pub fn has_chan(c: u16, chans: u16) -> bool
+    ensures { λ r. ⌜ r ≡ ltb c chans ⌝ }
 {
-    c.0 < chans
+    c < chans
 }
 
 pub fn has_expr(e: u16, exprs: &[u16]) -> bool

@@ -1,5 +1,14 @@
 // Question 3 at one node, whose parent, depth and number of children are known. The parent is given by its rank: one
 // more than its number, or 0 for none.
+use super::kinds::ASG;
+use super::kinds::DLY;
+use super::kinds::IF;
+use super::kinds::OUT;
+use super::kinds::PAR;
+use super::kinds::SEQ;
+use super::kinds::WHL;
+use super::limits::DEPTH_MAX;
+use super::limits::NO_PARENT;
 use super::words::a_word;
 use super::words::b_word;
 use super::words::end_word;
@@ -13,16 +22,11 @@ ghost use Rattle.semantics.specs.Program.{kindOf, isLeaf};
 ghost use Rattle.semantics.specs.Check.{kindOk, endWithin, parentOk, childrenOk, unusedOk, nodeOk};
 ghost use Rattle.program.specs.Ranks.{atRank, Place};
 
-const DEPTH_MAX: u16 = 32;
-
-// The parent word of node 0.
-const NO_PARENT: u16 = 65535;
-
 fn kind_ok(kind: u16) -> bool
     ensures { λ r. ⌜ r ≡ kindOk (kindOf kind) ⌝ }
 {
     match kind {
-        1..=8 => true,
+        SEQ..=DLY => true,
         _ => false,
     }
 }
@@ -42,7 +46,7 @@ fn leaf_end_ok(kind: u16, i: u16, end: u16) -> bool
     ensures { λ r. ⌜ r ≡ cond (isLeaf (kindOf kind)) (eqb end (suc i)) true ⌝ }
 {
     match kind {
-        3..=5 | 8 => (end as usize) == (i as usize) + 1,
+        ASG..=OUT | DLY => (end as usize) == (i as usize) + 1,
         _ => true,
     }
 }
@@ -61,11 +65,11 @@ fn children_ok(kind: u16, n: u16) -> bool
     ensures { λ r. ⌜ r ≡ childrenOk (kindOf kind) n ⌝ }
 {
     match kind {
-        1 => 1 <= n,
-        2 => 2 <= n,
-        6 => (1 <= n) & (n <= 2),
-        7 => n == 1,
-        3..=5 | 8 => n == 0,
+        SEQ => 1 <= n,
+        PAR => 2 <= n,
+        IF => (1 <= n) & (n <= 2),
+        WHL => n == 1,
+        ASG..=OUT | DLY => n == 0,
         _ => false,
     }
 }
@@ -74,9 +78,9 @@ fn unused_ok(kind: u16, a: u16, b: u16) -> bool
     ensures { λ r. ⌜ r ≡ unusedOk (kindOf kind) a b ⌝ }
 {
     match kind {
-        1..=2 | 8 => (a == 0) & (b == 0),
-        6..=7 => b == 0,
-        3..=5 => true,
+        SEQ..=PAR | DLY => (a == 0) & (b == 0),
+        IF..=WHL => b == 0,
+        ASG..=OUT => true,
         _ => false,
     }
 }

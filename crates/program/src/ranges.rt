@@ -1,6 +1,10 @@
 // Question 4: a and b in range of the variables, channels or expressions.
-use super::ChanId;
 use super::VarId;
+use super::kinds::ASG;
+use super::kinds::IF;
+use super::kinds::IN;
+use super::kinds::OUT;
+use super::kinds::WHL;
 use super::names::has_chan;
 use super::names::has_expr;
 use super::names::has_var;
@@ -11,27 +15,27 @@ ghost use mathlib.Core.Path.{_≡_};
 ghost use mathlib.Core.List.{List};
 ghost use Prim.Native.Nat.{ℕ};
 ghost use Rattle.semantics.specs.Program.{kindOf};
-ghost use Rattle.semantics.specs.Check.{namesOk, rangeOk};
+ghost use Rattle.semantics.specs.Check.{referenceWordsOk, referencesOk};
 ghost use Rattle.program.specs.Answer.{programOf};
 ghost use Rattle.program.specs.Search.{FirstFault};
 
-fn names_ok(exprs: &[u16], vars: u16, chans: u16, kind: u16, a: u16, b: u16) -> bool
+fn reference_words_ok(exprs: &[u16], vars: u16, chans: u16, kind: u16, a: u16, b: u16) -> bool
     ensures { λ r. ⌜ ((nodes : List ℕ) →
-        r ≡ namesOk (programOf (now (exprs .entry)) nodes vars chans) (kindOf kind) a b) ⌝ }
+        r ≡ referenceWordsOk (programOf (now (exprs .entry)) nodes vars chans) (kindOf kind) a b) ⌝ }
 {
     match kind {
-        3 => has_var(VarId(a), vars) & has_expr(b, exprs),
-        4 => has_chan(ChanId(a), chans) & has_var(VarId(b), vars),
-        5 => has_chan(ChanId(a), chans) & has_expr(b, exprs),
-        6..=7 => has_expr(a, exprs),
+        ASG => has_var(VarId(a), vars) & has_expr(b, exprs),
+        IN => has_chan(a, chans) & has_var(VarId(b), vars),
+        OUT => has_chan(a, chans) & has_expr(b, exprs),
+        IF..=WHL => has_expr(a, exprs),
         _ => true,
     }
 }
 
-fn range_ok(exprs: &[u16], nodes: &[u16], vars: u16, chans: u16, i: u16) -> bool
-    ensures { λ r. ⌜ r ≡ rangeOk (programOf (now (exprs .entry)) (now (nodes .entry)) vars chans) i ⌝ }
+fn references_ok(exprs: &[u16], nodes: &[u16], vars: u16, chans: u16, i: u16) -> bool
+    ensures { λ r. ⌜ r ≡ referencesOk (programOf (now (exprs .entry)) (now (nodes .entry)) vars chans) i ⌝ }
 {
-    names_ok(
+    reference_words_ok(
         exprs,
         vars,
         chans,
@@ -43,11 +47,11 @@ fn range_ok(exprs: &[u16], nodes: &[u16], vars: u16, chans: u16, i: u16) -> bool
 
 // The first of the nodes below count that names what the program does not have, or count.
 pub fn first_out_of_range(exprs: &[u16], nodes: &[u16], vars: u16, chans: u16, count: u16) -> u16
-    ensures { λ r. ⌜ FirstFault (rangeOk (programOf (now (exprs .entry)) (now (nodes .entry)) vars chans)) count r ⌝ }
+    ensures { λ r. ⌜ FirstFault (referencesOk (programOf (now (exprs .entry)) (now (nodes .entry)) vars chans)) count r ⌝ }
 {
     let mut i: u16 = 0;
     while i < count {
-        if !range_ok(exprs, nodes, vars, chans, i) {
+        if !references_ok(exprs, nodes, vars, chans, i) {
             return i;
         }
         i += 1;

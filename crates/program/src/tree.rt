@@ -1,4 +1,5 @@
 // Question 3 at all nodes: kinds, ends, parents, depths, numbers of children and unused words.
+use super::limits::NODES_MAX;
 use super::nodes::node_ok;
 use super::parents::fill_tables;
 use super::words::word_at;
@@ -9,8 +10,8 @@ ghost use Rattle.semantics.specs.Check.{nodeOk};
 ghost use Rattle.program.specs.Ranks.{Tables};
 ghost use Rattle.program.specs.Search.{FirstFault};
 
-// One rank for each of the 1,024 nodes, and rank 0.
-const RANKS: usize = 1025;
+// One rank for each node, and rank 0.
+const RANKS: usize = NODES_MAX + 1;
 
 fn first_faulty_in_tables(
     nodes: &[u16],

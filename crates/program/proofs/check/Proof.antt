@@ -4,96 +4,100 @@ use mathlib.Core.Bool.{true}
 use native.Mathlib.Omega.{arith}
 use borrow.Author.Needs.{needs}
 use borrow.Author.Tests.{not-true, not-false}
-use Rattle.semantics.specs.Program.{Program}
-use Rattle.semantics.specs.Check.{sized}
+use Rattle.semantics.specs.Numbers.{below, every}
+use Rattle.semantics.specs.Program.{Program, exprCount, nodeCount}
+use Rattle.semantics.specs.Check.{sizesOk, exprOk, nodeOk}
+use Rattle.semantics.proofs.Lists.QuestionLaws.{sized-limits}
 use Rattle.program.specs.Answer.{programOf}
-use Rattle.program.proofs.CheckLaws.{size-limits, answer-1, answer-2, answer-3, answer-4, answer-0}
+use Rattle.program.specs.Search.{FirstFault}
+use Rattle.program.proofs.CheckLaws.{answer-1, answer-2, answer-3, answer-4, answer-0}
+use Rattle.program.proofs.SearchLaws.{not-found}
 use Rattle.program.proofs.check.Statement.{statement}
 use Rattle.program.proofs.check.Tie as tie
 
+abbrev start : tie.After-sizes-ok → tie.Start
+start c = c .before .before .before
+
 -- the program that is checked
-abbrev program : tie.Start → Program
-program s = programOf (s .args .exprs .now) (s .args .nodes .now) (s .args .vars) (s .args .chans)
-
--- question 1 is answered yes
-sizes : (c : tie.Else1) → sized (program (c .before .before .before .before)) ≡ true
-sizes c = sym (c .before .sizes-ok .ensures) ∙ not-false _ (c .if1 .left)
-
-sizes-ok-requires : tie.Need-sizes-ok-requires
-sizes-ok-requires c κs = search needs
+abbrev program : tie.After-sizes-ok → Program
+program c = let x = start c .args in programOf (x .exprs .now) (x .nodes .now) (x .vars) (x .chans)
 
 returns : tie.Need-returns
 returns c =
-    let s = c .before .before .before .before in
-    answer-1 (program s) (sym (c .before .sizes-ok .ensures) ∙ not-true _ (c .if1 .taken))
+    answer-1 (program (c .before)) (sym (c .before .sizes-ok .ensures) ∙ not-true _ (c .if1 .taken))
+
+-- ---- question 1 is answered yes
+sizes : (c : tie.Else1) → sizesOk (program (c .before)) ≡ true
+sizes c = sym (c .before .sizes-ok .ensures) ∙ not-false _ (c .if1 .left)
 
 cast-expr-count : tie.Need-cast-expr-count
-cast-expr-count c = omega (arith, size-limits (program (c .before .before .before .before)) (sizes c) .1)
+cast-expr-count c = omega (arith, sized-limits (program (c .before)) (sizes c) .exprsFit)
 
 cast-node-count : tie.Need-cast-node-count
-cast-node-count c = omega (arith, size-limits (program (c .before .before .before .before)) (sizes c) .0)
+cast-node-count c = omega (arith, sized-limits (program (c .before)) (sizes c) .nodesFit)
 
-first-faulty-expr-requires : tie.Need-first-faulty-expr-requires
-first-faulty-expr-requires c κs = search needs
+-- ---- the expressions are searched
+exprs-searched : (c : tie.After-first-faulty-expr)
+    → let P = program (c .before .before) in
+    FirstFault (exprOk P) (exprCount (P .exprs)) (c .first-faulty-expr .result)
+exprs-searched c =
+    let x = start (c .before .before) .args in c .first-faulty-expr .ensures (x .nodes .now) (x .chans)
 
 returns-2 : tie.Need-returns-2
 returns-2 c =
-    let s = c .before .before .before .before .before .before in
-    let found = c .before .first-faulty-expr in
-    answer-2 (program s) (sizes (c .before .before)) (found .result)
-    (found .ensures (s .args .nodes .now) (s .args .chans)) (c .if2 .taken)
+    let b = c .before .before in
+    answer-2 (program (b .before)) (sizes b) _ (exprs-searched (c .before)) (c .if2 .taken)
+
+-- ---- question 2 is answered yes
+exprs : (c : tie.Else2)
+    → let P = program (c .before .before .before) in every (exprOk P) (below (exprCount (P .exprs))) ≡ true
+exprs c = not-found _ _ _ (exprs-searched (c .before)) (c .if2 .left)
 
 first-faulty-node-requires : tie.Need-first-faulty-node-requires
 first-faulty-node-requires c κs =
-    let s = c .before .before .before .before .before .before in
-    (search needs, size-limits (program s) (sizes (c .before .before)) .0)
+    let b = c .before .before in
+    (search needs, sized-limits (program (b .before)) (sizes b) .nodesFit)
 
 returns-3 : tie.Need-returns-3
 returns-3 c =
-    let s = c .before .before .before .before .before .before .before .before in
-    let expr = c .before .before .before .first-faulty-expr in
-    let node = c .before .first-faulty-node in
-    answer-3 (program s) (sizes (c .before .before .before .before)) (expr .result)
-    (expr .ensures (s .args .nodes .now) (s .args .chans)) (c .before .before .if2 .left) (node .result) (node .ensures)
-    (c .if3 .taken)
+    let e = c .before .before in
+    let b = e .before .before in
+    answer-3 (program (b .before)) (sizes b) (exprs e) _ (c .before .first-faulty-node .ensures) (c .if3 .taken)
 
-first-out-of-range-requires : tie.Need-first-out-of-range-requires
-first-out-of-range-requires c κs = search needs
+-- ---- question 3 is answered yes
+nodes : (c : tie.Else3)
+    → let P = program (c .before .before .before .before .before) in
+    every (nodeOk (P .nodes)) (below (nodeCount (P .nodes))) ≡ true
+nodes c = not-found _ _ _ (c .before .first-faulty-node .ensures) (c .if3 .left)
 
 returns-4 : tie.Need-returns-4
 returns-4 c =
-    let b = c .before .before in
-    let s = b .before .before .before .before .before .before .before .before in
-    let expr = b .before .before .before .first-faulty-expr in
-    let node = b .before .first-faulty-node in
-    let name = c .before .first-out-of-range in
-    answer-4 (program s) (sizes (b .before .before .before .before)) (expr .result)
-    (expr .ensures (s .args .nodes .now) (s .args .chans)) (b .before .before .if2 .left) (node .result) (node .ensures)
-    (b .if3 .left) (name .result) (name .ensures) (c .if4 .taken)
+    let n = c .before .before in
+    let e = n .before .before in
+    let b = e .before .before in
+    answer-4 (program (b .before)) (sizes b) (exprs e) (nodes n) _ (c .before .first-out-of-range .ensures)
+    (c .if4 .taken)
 
 returns-5 : tie.Need-returns-5
 returns-5 c =
-    let b = c .before .before in
-    let s = b .before .before .before .before .before .before .before .before in
-    let expr = b .before .before .before .first-faulty-expr in
-    let node = b .before .first-faulty-node in
-    let name = c .before .first-out-of-range in
-    answer-0 (program s) (sizes (b .before .before .before .before)) (expr .result)
-    (expr .ensures (s .args .nodes .now) (s .args .chans)) (b .before .before .if2 .left) (node .result) (node .ensures)
-    (b .if3 .left) (name .result) (name .ensures) (c .if4 .left)
+    let n = c .before .before in
+    let e = n .before .before in
+    let b = e .before .before in
+    let references = not-found _ _ _ (c .before .first-out-of-range .ensures) (c .if4 .left) in
+    answer-0 (program (b .before)) (sizes b) (exprs e) (nodes n) references
 
 pub check-spec : {M : Type 1} → statement M
 check-spec =
     tie.close
     (tie.spec
-    sizes-ok-requires
+    (λ c κs. search needs)
     returns
     cast-expr-count
     cast-node-count
-    first-faulty-expr-requires
+    (λ c κs. search needs)
     returns-2
     first-faulty-node-requires
     returns-3
-    first-out-of-range-requires
+    (λ c κs. search needs)
     returns-4
     returns-5)

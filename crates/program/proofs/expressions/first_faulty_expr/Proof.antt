@@ -23,19 +23,10 @@ loop-holds : tie.Need-loop-holds Inv-loop μ-loop
 unfolding every upFrom
 loop-holds c = (search needs, λ nodes chans. refl)
 
-expr-ok-requires : tie.Need-expr-ok-requires Inv-loop μ-loop
-expr-ok-requires c κs = search needs
-
 returns : tie.Need-returns Inv-loop μ-loop
 returns c nodes chans =
     let l = c .before .before .before .loop in
     failed _ _ (l .i) _ (l .inv .0) (l .inv .1 nodes chans) (c .before .expr-ok .ensures nodes chans) (c .if1 .taken)
-
-add-i : tie.Need-add-i Inv-loop μ-loop
-add-i c = search needs
-
-loop-less : tie.Need-loop-less Inv-loop μ-loop
-loop-less c = search needs
 
 loop-again : tie.Need-loop-again Inv-loop μ-loop
 loop-again c =
@@ -52,4 +43,4 @@ returns-2 c nodes chans =
 
 pub first-faulty-expr-spec : {M : Type 1} → statement M
 first-faulty-expr-spec =
-    tie.close (tie.spec Inv-loop μ-loop loop-holds expr-ok-requires returns add-i loop-less loop-again returns-2)
+    tie.close (tie.spec Inv-loop μ-loop loop-holds (λ c κs. search needs) returns (λ c. search needs) (λ c. search needs) loop-again returns-2)

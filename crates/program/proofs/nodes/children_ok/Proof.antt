@@ -3,7 +3,7 @@ use mathlib.Core.Logic.{inl, inr, ⊎-elim}
 use native.Mathlib.Omega.{arith}
 use Rattle.semantics.specs.Program.{kindOf}
 use Rattle.semantics.specs.Check.{childrenOk}
-use Rattle.semantics.proofs.KindLaws.{kind-leaf, kind-unknown}
+use Rattle.semantics.proofs.Lists.KindLaws.{kind-leaf, kind-unknown}
 use Rattle.program.proofs.nodes.children_ok.Statement.{statement}
 use Rattle.program.proofs.nodes.children_ok.Tie as tie
 

@@ -7,21 +7,9 @@ use Rattle.program.proofs.RankLaws.{rank-node}
 use Rattle.program.proofs.nodes.end_within.Statement.{statement}
 use Rattle.program.proofs.nodes.end_within.Tie as tie
 
-end-word-requires : tie.Need-end-word-requires
-end-word-requires c κs = search needs
-
-cast-result : tie.Need-cast-result
-cast-result c = search needs
-
 returns : tie.Need-returns
 unfolding endWithin atRank
 returns c = rw (c .if1 .taken, c .before .end-word .ensures)
-
-sub-end-word : tie.Need-sub-end-word
-sub-end-word c = search needs
-
-end-word-requires-2 : tie.Need-end-word-requires-2
-end-word-requires-2 c κs = search needs
 
 returns-2 : tie.Need-returns-2
 unfolding endWithin
@@ -33,4 +21,4 @@ returns-2 c =
     )
 
 pub end-within-spec : {M : Type 1} → statement M
-end-within-spec = tie.close (tie.spec end-word-requires cast-result returns sub-end-word end-word-requires-2 returns-2)
+end-within-spec = tie.close (tie.spec (λ c κs. search needs) (λ c. search needs) returns (λ c. search needs) (λ c κs. search needs) returns-2)

@@ -6,8 +6,8 @@ use Prim.Native.Nat.{ℕ}
 use native.Mathlib.Omega.{arith}
 use Rattle.semantics.specs.Program.{kindOf}
 use Rattle.semantics.specs.Check.{kindOk}
-use Rattle.semantics.proofs.Logic.{lt-or-le}
-use Rattle.semantics.proofs.KindLaws.{at-or-above, one-of-three, kind-unknown}
+use Rattle.semantics.proofs.Lists.Logic.{lt-or-le}
+use Rattle.semantics.proofs.Lists.KindLaws.{at-or-above, one-of-three, kind-unknown}
 use Rattle.program.proofs.nodes.kind_ok.Statement.{statement}
 use Rattle.program.proofs.nodes.kind_ok.Tie as tie
 

@@ -8,12 +8,9 @@ use native.Mathlib.Numerals.{add-one}
 use lib.Dec.{eqb}
 use borrow.Author.Needs.{needs}
 use Rattle.semantics.specs.Program.{kindOf, isLeaf}
-use Rattle.semantics.proofs.KindLaws.{at-or-above, one-of-three, kind-leaf, kind-unknown}
+use Rattle.semantics.proofs.Lists.KindLaws.{at-or-above, one-of-three, kind-leaf, kind-unknown}
 use Rattle.program.proofs.nodes.leaf_end_ok.Statement.{statement}
 use Rattle.program.proofs.nodes.leaf_end_ok.Tie as tie
-
-add-result : tie.Need-add-result
-add-result c = search needs
 
 returns : tie.Need-returns
 unfolding kindOf
@@ -37,4 +34,4 @@ returns-3 c =
     (⊎-elim (λ w. rw (leaf (inl (w .keys1)) .1)) (λ w. rw (leaf (inr (omega arith)) .1)) (c .match .came))
 
 pub leaf-end-ok-spec : {M : Type 1} → statement M
-leaf-end-ok-spec = tie.close (tie.spec add-result returns returns-2 returns-3)
+leaf-end-ok-spec = tie.close (tie.spec (λ c. search needs) returns returns-2 returns-3)

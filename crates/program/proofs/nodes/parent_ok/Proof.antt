@@ -11,12 +11,9 @@ returns : tie.Need-returns
 unfolding parentOk atRank
 returns c = rw (c .if1 .taken)
 
-sub-result : tie.Need-sub-result
-sub-result c = search needs
-
 returns-2 : tie.Need-returns-2
 unfolding parentOk
 returns-2 c = rw (rank-node (c .before .args .above) (omega arith))
 
 pub parent-ok-spec : {M : Type 1} → statement M
-parent-ok-spec = tie.close (tie.spec returns sub-result returns-2)
+parent-ok-spec = tie.close (tie.spec returns (λ c. search needs) returns-2)

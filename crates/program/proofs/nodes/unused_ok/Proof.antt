@@ -7,20 +7,24 @@ use native.Mathlib.Omega.{arith}
 use lib.Dec.{eqb}
 use Rattle.semantics.specs.Program.{kindOf}
 use Rattle.semantics.specs.Check.{unusedOk}
-use Rattle.semantics.proofs.KindLaws.{one-of-two, one-of-three, kind-unknown}
+use Rattle.semantics.proofs.Lists.KindLaws.{one-of-two, one-of-three, kind-unknown}
 use Rattle.program.proofs.nodes.unused_ok.Statement.{statement}
 use Rattle.program.proofs.nodes.unused_ok.Tie as tie
+
+-- the arms after the first two tests of the match's ranges
+abbrev start : tie.Else2 → tie.Start
+start c = c .before .before .before
 
 returns : tie.Need-returns
 unfolding kindOf unusedOk
 returns c =
-    let x = c .before .before .before .before .args in
+    let x = start (c .before) .args in
     one-of-three (λ w. true ≡ unusedOk (kindOf w) (x .a) (x .b)) 3 (x .kind) (omega arith) (omega arith) refl refl refl
 
 returns-2 : tie.Need-returns-2
 unfolding kindOf unusedOk
 returns-2 c =
-    let x = c .before .before .before .before .before .args in
+    let x = start (c .before .before) .args in
     one-of-two (λ w. eqb (x .b) 0 ≡ unusedOk (kindOf w) (x .a) (x .b)) 6 (x .kind) (omega arith) (omega arith) refl refl
 
 returns-3 : tie.Need-returns-3
@@ -29,7 +33,7 @@ returns-3 c = rw (kind-unknown (c .before .before .args .kind) (inl (omega arith
 
 returns-4 : tie.Need-returns-4
 unfolding unusedOk
-returns-4 c = rw (kind-unknown (c .before .before .before .before .before .args .kind) (inr (omega arith)))
+returns-4 c = rw (kind-unknown (start (c .before .before) .args .kind) (inr (omega arith)))
 
 returns-5 : tie.Need-returns-5
 unfolding kindOf unusedOk

@@ -6,7 +6,7 @@ use native.Mathlib.Omega.{arith}
 use borrow.Author.Needs.{needs}
 use Rattle.semantics.specs.Program.{endAt}
 use Rattle.semantics.specs.Parents.{parentBelow, parent}
-use Rattle.program.specs.Ranks.{rankOf, parentRank}
+use Rattle.program.specs.Ranks.{nodeRank, parentRank}
 use Rattle.program.proofs.RankLaws.{parentRank-low, climb, covers, parent-at}
 use Rattle.program.proofs.parents.parent_rank.Statement.{statement}
 use Rattle.program.proofs.parents.parent_rank.Tie as tie
@@ -17,49 +17,39 @@ Inv-loop nodes parents i rank₀ rank = (rank ≤ i) × (parentBelow nodes i ran
 abbrev μ-loop : tie.MeasureT-loop
 μ-loop nodes parents i rank₀ rank = rank
 
-loop-holds : tie.Need-loop-holds Inv-loop μ-loop
-loop-holds c = search needs
-
-sub-end-word : tie.Need-sub-end-word Inv-loop μ-loop
-sub-end-word c = search needs
-
-end-word-requires : tie.Need-end-word-requires Inv-loop μ-loop
-end-word-requires c κs = search needs
+abbrev start : tie.At-loop Inv-loop μ-loop → tie.Start Inv-loop μ-loop
+start c = c .before .before .before
 
 returns : tie.Need-returns Inv-loop μ-loop
 returns c =
-    let l = c .before .before .before .loop in
-    let x = c .before .before .before .before .before .before .args in
+    let turn = c .before .before .before in
+    let l = turn .loop in
+    let x = start turn .args in
     let above : x .i < endAt (x .nodes .now) (l .rank - 1) = rw (← c .before .end-word .ensures) (c .if1 .taken) in
-    (covers (x .nodes .now) (x .i) (l .rank) (omega arith) above ∙ ap rankOf (l .inv .1), l .inv .0)
+    (covers (x .nodes .now) (x .i) (l .rank) (omega arith) above ∙ ap nodeRank (l .inv .1), l .inv .0)
 
-cast-word-at : tie.Need-cast-word-at Inv-loop μ-loop
-cast-word-at c = search needs
-
-word-at-requires : tie.Need-word-at-requires Inv-loop μ-loop
-word-at-requires c κs = search needs
+abbrev at-loop : tie.After-word-at Inv-loop μ-loop → tie.At-loop Inv-loop μ-loop
+at-loop c = c .before .before .before .before
 
 -- the next rank is that of the parent of the node passed
 next : (c : tie.After-word-at Inv-loop μ-loop)
-    → let x = c .before .before .before .before .before .before .before .args in
-    c .word-at .result ≡ parentRank (x .nodes .now) (c .before .before .before .before .loop .rank - 1)
+    → c .word-at .result ≡ parentRank (start (at-loop c) .args .nodes .now) (at-loop c .loop .rank - 1)
 next c =
-    let s = c .before .before .before .before .before .before .before in
-    let l = c .before .before .before .before .loop in
+    let s = start (at-loop c) in
+    let l = at-loop c .loop in
     let x = s .args in
     c .word-at .ensures
     ∙ parent-at (x .nodes .now) (x .parents .now) (x .i) (l .rank) (s .pre) (omega arith) (l .inv .0)
 
 loop-less : tie.Need-loop-less Inv-loop μ-loop
 loop-less c =
-    let x = c .before .before .before .before .before .before .before .args in
-    let low = parentRank-low (x .nodes .now) (c .before .before .before .before .loop .rank - 1) in
+    let low = parentRank-low (start (at-loop c) .args .nodes .now) (at-loop c .loop .rank - 1) in
     omega (arith, next c)
 
 loop-again : tie.Need-loop-again Inv-loop μ-loop
 loop-again c =
-    let x = c .before .before .before .before .before .before .before .args in
-    let l = c .before .before .before .before .loop in
+    let x = start (at-loop c) .args in
+    let l = at-loop c .loop in
     let low = parentRank-low (x .nodes .now) (l .rank - 1) in
     let b = c .before in
     let ended : endAt (x .nodes .now) (l .rank - 1) ≤ x .i = rw (← b .before .end-word .ensures) (b .if1 .left) in (
@@ -69,12 +59,12 @@ loop-again c =
     )
 
 returns-2 : tie.Need-returns-2 Inv-loop μ-loop
-unfolding parentBelow rankOf
+unfolding parentBelow nodeRank
 returns-2 c =
     let l = c .before .loop in
-    let x = c .before .before .before .before .args in
+    let x = start (c .before) .args in
     let e : l .rank ≡ 0 = omega arith in
-    (e ∙ ap (λ r. rankOf (parentBelow (x .nodes .now) (x .i) r)) (sym e) ∙ ap rankOf (l .inv .1), l .inv .0)
+    (e ∙ ap (λ r. nodeRank (parentBelow (x .nodes .now) (x .i) r)) (sym e) ∙ ap nodeRank (l .inv .1), l .inv .0)
 
 pub parent-rank-spec : {M : Type 1} → statement M
 parent-rank-spec =
@@ -82,12 +72,12 @@ parent-rank-spec =
     (tie.spec
     Inv-loop
     μ-loop
-    loop-holds
-    sub-end-word
-    end-word-requires
+    (λ c. search needs)
+    (λ c. search needs)
+    (λ c κs. search needs)
     returns
-    cast-word-at
-    word-at-requires
+    (λ c. search needs)
+    (λ c κs. search needs)
     loop-less
     loop-again
     returns-2)

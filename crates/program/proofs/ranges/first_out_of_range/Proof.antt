@@ -5,7 +5,7 @@ use Prim.Native.Nat.{_-_, _≤_}
 use native.Mathlib.Omega.{arith}
 use borrow.Author.Needs.{needs}
 use Rattle.semantics.specs.Numbers.{upFrom, below, every}
-use Rattle.semantics.specs.Check.{rangeOk}
+use Rattle.semantics.specs.Check.{referencesOk}
 use Rattle.program.specs.Answer.{programOf}
 use Rattle.program.proofs.SearchLaws.{passed-more, failed, all-passed}
 use Rattle.program.proofs.ranges.first_out_of_range.Statement.{statement}
@@ -13,7 +13,7 @@ use Rattle.program.proofs.ranges.first_out_of_range.Tie as tie
 
 abbrev Inv-loop : tie.InvT-loop
 Inv-loop exprs nodes vars chans count i₀ i =
-    (i ≤ count) × (every (rangeOk (programOf exprs nodes vars chans)) (below i) ≡ true)
+    (i ≤ count) × (every (referencesOk (programOf exprs nodes vars chans)) (below i) ≡ true)
 
 abbrev μ-loop : tie.MeasureT-loop
 μ-loop exprs nodes vars chans count i₀ i = count - i
@@ -22,28 +22,19 @@ loop-holds : tie.Need-loop-holds Inv-loop μ-loop
 unfolding every upFrom
 loop-holds c = (search needs, refl)
 
-range-ok-requires : tie.Need-range-ok-requires Inv-loop μ-loop
-range-ok-requires c κs = search needs
-
 returns : tie.Need-returns Inv-loop μ-loop
 returns c =
     let l = c .before .before .before .loop in
-    failed _ _ (l .i) _ (l .inv .0) (l .inv .1) (c .before .range-ok .ensures) (c .if1 .taken)
-
-add-i : tie.Need-add-i Inv-loop μ-loop
-add-i c = search needs
-
-loop-less : tie.Need-loop-less Inv-loop μ-loop
-loop-less c = search needs
+    failed _ _ (l .i) _ (l .inv .0) (l .inv .1) (c .before .references-ok .ensures) (c .if1 .taken)
 
 loop-again : tie.Need-loop-again Inv-loop μ-loop
 loop-again c =
     let l = c .before .before .before .loop in
-    (omega arith, passed-more _ (l .i) _ (l .inv .1) (c .before .range-ok .ensures) (c .if1 .left))
+    (omega arith, passed-more _ (l .i) _ (l .inv .1) (c .before .references-ok .ensures) (c .if1 .left))
 
 returns-2 : tie.Need-returns-2 Inv-loop μ-loop
 returns-2 c = let l = c .before .loop in all-passed _ _ (l .i) (l .inv .0) (c .loop-test .left) (l .inv .1)
 
 pub first-out-of-range-spec : {M : Type 1} → statement M
 first-out-of-range-spec =
-    tie.close (tie.spec Inv-loop μ-loop loop-holds range-ok-requires returns add-i loop-less loop-again returns-2)
+    tie.close (tie.spec Inv-loop μ-loop loop-holds (λ c κs. search needs) returns (λ c. search needs) (λ c. search needs) loop-again returns-2)

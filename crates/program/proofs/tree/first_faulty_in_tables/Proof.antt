@@ -21,25 +21,13 @@ loop-holds : tie.Need-loop-holds Inv-loop μ-loop
 unfolding every upFrom
 loop-holds c = (search needs, refl)
 
-cast-rank : tie.Need-cast-rank Inv-loop μ-loop
-cast-rank c = search needs
-
-add-rank : tie.Need-add-rank Inv-loop μ-loop
-add-rank c = search needs
-
-word-at-requires : tie.Need-word-at-requires Inv-loop μ-loop
-word-at-requires c κs = search needs
-
-word-at-requires-2 : tie.Need-word-at-requires-2 Inv-loop μ-loop
-word-at-requires-2 c κs = search needs
-
-word-at-requires-3 : tie.Need-word-at-requires-3 Inv-loop μ-loop
-word-at-requires-3 c κs = search needs
+abbrev at-loop : tie.After-word-at3 Inv-loop μ-loop → tie.At-loop Inv-loop μ-loop
+at-loop c = c .before .before .before .before
 
 node-ok-requires : tie.Need-node-ok-requires Inv-loop μ-loop
 node-ok-requires c κs =
-    let s = c .before .before .before .before .before .before .before .before .before in
-    let l = c .before .before .before .before .loop in
+    let s = at-loop c .before .before .before .before .before in
+    let l = at-loop c .loop in
     let x = s .args in
     rw (c .word-at3 .ensures, c .before .word-at2 .ensures, c .before .before .word-at .ensures)
     (place (x .nodes .now) (x .count) (l .i) (x .parents .now) (x .depths .now) (x .children .now) (s .pre .1)
@@ -47,18 +35,12 @@ node-ok-requires c κs =
 
 returns : tie.Need-returns Inv-loop μ-loop
 returns c =
-    let l = c .before .before .before .before .before .before .loop in
+    let l = at-loop (c .before .before) .loop in
     failed _ _ (l .i) _ (l .inv .0) (l .inv .1) (c .before .node-ok .ensures) (c .if1 .taken)
-
-add-i : tie.Need-add-i Inv-loop μ-loop
-add-i c = search needs
-
-loop-less : tie.Need-loop-less Inv-loop μ-loop
-loop-less c = search needs
 
 loop-again : tie.Need-loop-again Inv-loop μ-loop
 loop-again c =
-    let l = c .before .before .before .before .before .before .loop in
+    let l = at-loop (c .before .before) .loop in
     (omega arith, passed-more _ (l .i) _ (l .inv .1) (c .before .node-ok .ensures) (c .if1 .left))
 
 returns-2 : tie.Need-returns-2 Inv-loop μ-loop
@@ -71,14 +53,14 @@ first-faulty-in-tables-spec =
     Inv-loop
     μ-loop
     loop-holds
-    cast-rank
-    add-rank
-    word-at-requires
-    word-at-requires-2
-    word-at-requires-3
+    (λ c. search needs)
+    (λ c. search needs)
+    (λ c κs. search needs)
+    (λ c κs. search needs)
+    (λ c κs. search needs)
     node-ok-requires
     returns
-    add-i
-    loop-less
+    (λ c. search needs)
+    (λ c. search needs)
     loop-again
     returns-2)

@@ -7,11 +7,5 @@ use Rattle.program.proofs.values.product.Tie as tie
 mul-whole : tie.Need-mul-whole
 mul-whole c = record { fits = product-fits 16 (search needs) (search needs) }
 
-cast-result : tie.Need-cast-result
-cast-result c = search needs
-
-returns : tie.Need-returns
-returns c = search needs
-
 pub product-spec : {M : Type 1} → statement M
-product-spec = tie.close (tie.spec mul-whole cast-result returns)
+product-spec = tie.close (tie.spec mul-whole (λ c. search needs) (λ c. search needs))
