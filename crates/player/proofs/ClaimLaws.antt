@@ -1,20 +1,21 @@
--- A table of claims after some entries: each slot has the rank of the one entry that wants it. An entry that wants a
+-- A part of the claims after some entries: each slot has the rank of the one entry that wants it. An entry that wants a
 -- free slot keeps it so, and one that wants a claimed slot shows that two entries want the same.
 use mathlib.Core.Path.{_≡_, refl, sym, ap, _∙_, subst}
 use mathlib.Core.Bool.{Bool, true, false, cond, not, _&&_, _||_, true≢false}
 use mathlib.Core.List.{List, [], _∷_, _++_, append-nil}
 use mathlib.Core.Logic.{_≢_}
-use Prim.Native.Nat.{ℕ, suc, _+_, _≤_, _<_}
+use Prim.Native.Nat.{ℕ, zero, suc, _+_, _≤_, _<_}
 use native.Mathlib.Nat.{le-refl}
 use native.Mathlib.Numerals.{add-one}
 use native.Mathlib.Omega.{arith}
 use lib.Dec.{eqb}
-use lib.ListN.{length, getD, set, take, drop, replicate, length-set, length-append, length-replicate, getD-replicate}
-use lib.Seq.{take-all, take-suc, split-at, getD-set-same, getD-set-other}
+use lib.ListN.{length, getD, take, drop, length-append}
+use lib.Seq.{take-all, take-suc, split-at, getD-take, length-take-le}
 use borrow.Author.Tests.{eqb-true, eqb-false, eq-eqb}
 use Rattle.semantics.specs.Numbers.{filter}
-use Rattle.semantics.proofs.NumberLaws.{length-filter}
-use Rattle.player.specs.Claims.{rankOf, isFree, claimed}
+use Rattle.semantics.proofs.Lists.Logic.{both}
+use Rattle.semantics.proofs.Lists.NumberLaws.{length-filter}
+use Rattle.player.specs.Claims.{rankOf, rankIn, isFree, Claimed, wants, Claims}
 
 -- ---- lists
 
@@ -32,6 +33,20 @@ filter-last : (f : ℕ → Bool) (xs : List ℕ) (x : ℕ) → filter f (xs ++ x
 unfolding filter
 filter-last f xs x = filter-append f xs (x ∷ [])
 
+-- where a number passes, there are some that pass
+filter-some : (f : ℕ → Bool) (xs : List ℕ) (j : ℕ) → j < length xs → f (getD xs j 0) ≡ true → filter f xs ≢ []
+unfolding filter
+filter-some f [] j l h none = omega arith
+filter-some f (x ∷ xs) zero l h none =
+    let first : filter f (x ∷ xs) ≡ x ∷ filter f xs = rw h in
+    let z : _≡_ {A = ℕ} 0 1 = cc in
+    omega arith
+filter-some f (x ∷ xs) (suc j) l h none = pick (f x) (filter-some f xs j (omega arith) h) none
+  where
+    pick : (b : Bool) → (filter f xs ≡ [] → ⊥) → cond b (x ∷ filter f xs) (filter f xs) ≡ [] → ⊥
+    pick true later e = let z : _≡_ {A = ℕ} 0 1 = cc in omega arith
+    pick false later e = later e
+
 no-rank : (xs : List ℕ) → rankOf xs ≡ 0 → xs ≡ []
 no-rank [] e = refl
 no-rank (x ∷ xs) e = absurd (omega arith)
@@ -42,102 +57,102 @@ some-rank (x ∷ xs) h = omega arith
 
 -- ---- claims
 
--- The slot has the rank of the one number of a list, or 0 if there is none.
-pub record Slot (table wanting : List ℕ) (slot : ℕ) : Type 0 where
-  pub rank : slot < length table → getD table slot 0 ≡ rankOf wanting
-  pub single : length wanting ≤ 1
+module _ (uses : ℕ → Bool) (key : ℕ → ℕ) (part : ℕ) where
+  abbrev wanting : ℕ → List ℕ → List ℕ
+  wanting slot = filter (wants uses key part slot)
 
-module _ (uses : ℕ → Bool) (key : ℕ → ℕ) where
-  -- node i wants the slot
-  abbrev pub wants : ℕ → ℕ → Bool
-  wants slot i = uses i && eqb (key i) slot
-
-  abbrev pub Claims : List ℕ → List ℕ → Type 0
-  Claims entries table = (slot : ℕ) → Slot table (filter (wants slot) entries) slot
-
-  pub claims-none : (n : ℕ) → Claims [] (replicate n 0)
+  pub claims-none : (claims : List ℕ) → ((slot : ℕ) → slot < 256 → rankIn claims part slot ≡ 0)
+      → Claims uses key part [] claims
   unfolding filter
-  claims-none n slot = record {
-    rank = λ l. getD-replicate n slot 0 0 (subst (λ (k : ℕ). slot < k) (length-replicate {A = ℕ} n 0) l);
-    single = omega arith;
-  }
-
-  pub claimed-length : (table : List ℕ) (i : ℕ) → length (claimed uses key table i) ≡ length table
-  claimed-length table i = pick (uses i)
-    where
-      pick : (b : Bool) → length (cond b (set table (key i) (suc i)) table) ≡ length table
-      pick true = length-set table (key i) (suc i)
-      pick false = refl
+  claims-none claims h slot = record { rank = h slot; single = omega arith }
 
   -- an entry that wants a free slot, or none
-  claims-last : (entries table : List ℕ) (e : ℕ) → Claims entries table → (uses e ≡ true → key e < length table)
-      → isFree uses key table e ≡ true → Claims (entries ++ e ∷ []) (claimed uses key table e)
-  claims-last entries table e h inside free slot =
-      rw (filter-last (wants slot) entries e) (pick (uses e) (eqb (key e) slot) refl refl)
+  claims-last : (entries before after : List ℕ) (e : ℕ) → Claims uses key part entries before
+      → (uses e ≡ true → key e < 256) → isFree uses key part before e ≡ true
+      → Claimed uses key part before after e → Claims uses key part (entries ++ e ∷ []) after
+  claims-last entries before after e h inside free made slot = record {
+    rank = λ l. made slot l
+        ∙ ranked (wants uses key part slot e) refl l ∙ ap rankOf (sym (filter-last (wants uses key part slot) entries e));
+    single = subst (λ (xs : List ℕ). length xs ≤ 1) (sym (filter-last (wants uses key part slot) entries e))
+        (single (wants uses key part slot e) refl);
+  }
     where
-      before : List ℕ
-      before = filter (wants slot) entries
+      old : List ℕ
+      old = wanting slot entries
 
-      kept : Slot table (before ++ []) slot
-      kept = rw (append-nil before) (h slot)
+      none : wants uses key part slot e ≡ true → old ≡ []
+      none w = unwanted (uses e) (eqb (key e) slot) refl refl w
+        where
+          unwanted : (u s : Bool) → uses e ≡ u → eqb (key e) slot ≡ s → u && s ≡ true → old ≡ []
+          unwanted true true used same q =
+              let here : key e ≡ slot = eqb-true (key e) slot same in
+              let unclaimed : rankIn before part (key e) ≡ 0 = eqb-true _ 0 (rw used at free) in
+              no-rank old
+              (sym (h slot .rank (rw (sym here) (inside used))) ∙ ap (rankIn before part) (sym here) ∙ unclaimed)
+          unwanted true false used same q = absurd (true≢false (sym q))
+          unwanted false s used same q = absurd (true≢false (sym q))
 
-      pick : (u w : Bool) → uses e ≡ u → eqb (key e) slot ≡ w
-          → Slot (cond u (set table (key e) (suc e)) table) (before ++ cond (u && w) (e ∷ []) []) slot
-      pick true true used same =
-          let here : key e ≡ slot = eqb-true (key e) slot same in
-          let unclaimed : getD table (key e) 0 ≡ 0 = eqb-true _ 0 (rw used at free) in
-          let none : before ≡ [] =
-          no-rank before (sym (h slot .rank (rw (sym here) (inside used))) ∙ rw (sym here) unclaimed) in
-          rw none (record {
-            rank = λ l. rw (sym here) (getD-set-same table (key e) (suc e) 0 (inside used));
-            single = le-refl 1;
-          })
-      pick true false used same = record {
-        rank = λ l. getD-set-other table (key e) slot (suc e) 0 (λ q. eqb-false (key e) slot same (sym q))
-            ∙ kept .rank (subst (λ (n : ℕ). slot < n) (length-set table (key e) (suc e)) l);
-        single = kept .single;
-      }
-      pick false w used same = kept
+      ranked : (b : Bool) → wants uses key part slot e ≡ b → slot < 256
+          → cond b (suc e) (rankIn before part slot) ≡ rankOf (old ++ cond b (e ∷ []) [])
+      ranked true w l = rw (none w)
+      ranked false w l = h slot .rank l ∙ ap rankOf (sym (append-nil old))
+
+      single : (b : Bool) → wants uses key part slot e ≡ b → length (old ++ cond b (e ∷ []) []) ≤ 1
+      single true w = rw (none w) (le-refl 1)
+      single false w = rw (append-nil old) (h slot .single)
 
   -- an entry that wants a claimed slot is the second that wants it
-  claims-clash : (entries table : List ℕ) (e : ℕ) (rest : List ℕ) → Claims entries table
-      → (uses e ≡ true → key e < length table) → isFree uses key table e ≡ false
-      → (uses e ≡ true) × (2 ≤ length (filter (wants (key e)) (entries ++ e ∷ rest)))
-  claims-clash entries table e rest h inside taken = pick (uses e) refl taken
+  claims-clash : (entries claims : List ℕ) (e : ℕ) (rest : List ℕ) → Claims uses key part entries claims
+      → (uses e ≡ true → key e < 256) → isFree uses key part claims e ≡ false
+      → (uses e ≡ true) × (2 ≤ length (wanting (key e) (entries ++ e ∷ rest)))
+  claims-clash entries claims e rest h inside taken = pick (uses e) refl taken
     where
-      before : List ℕ
-      before = filter (wants (key e)) entries
+      old : List ℕ
+      old = wanting (key e) entries
 
-      pick : (u : Bool) → uses e ≡ u → not u || eqb (getD table (key e) 0) 0 ≡ false
-          → (uses e ≡ true) × (2 ≤ length (filter (wants (key e)) (entries ++ e ∷ rest)))
+      pick : (u : Bool) → uses e ≡ u → not u || eqb (rankIn claims part (key e)) 0 ≡ false
+          → (uses e ≡ true) × (2 ≤ length (wanting (key e) (entries ++ e ∷ rest)))
       pick true used busy =
-          let one = some-rank before (λ r. eqb-false _ 0 busy (h (key e) .rank (inside used) ∙ r)) in
-          let more : length (filter (wants (key e)) (e ∷ rest)) ≡ suc (length (filter (wants (key e)) rest)) =
-          length-filter (wants (key e)) e rest ∙ rw (used, eq-eqb (key e) (key e) refl) in
-          let all = ap length (filter-append (wants (key e)) entries (e ∷ rest)) ∙ length-append before _ in
+          let one = some-rank old (λ r. eqb-false _ 0 busy (h (key e) .rank (inside used) ∙ r)) in
+          let more : length (wanting (key e) (e ∷ rest)) ≡ suc (length (wanting (key e) rest)) =
+          length-filter (wants uses key part (key e)) e rest ∙ rw (used, eq-eqb (key e) (key e) refl) in
+          let all = ap length (filter-append (wants uses key part (key e)) entries (e ∷ rest)) ∙ length-append old _ in
           (used, omega arith)
       pick false used busy = absurd (true≢false busy)
 
   -- ---- by the number of entries asked so far
 
-  pub claims-more : (entries table : List ℕ) (k : ℕ) → k < length entries → Claims (take k entries) table
-      → (uses (getD entries k 0) ≡ true → key (getD entries k 0) < length table)
-      → isFree uses key table (getD entries k 0) ≡ true
-      → Claims (take (k + 1) entries) (claimed uses key table (getD entries k 0))
-  claims-more entries table k l h inside free =
-      let taken : take (k + 1) entries ≡ take k entries ++ getD entries k 0 ∷ [] =
-      ap (λ (n : ℕ). take n entries) (add-one k) ∙ take-suc entries k 0 l in
-      rw taken (claims-last (take k entries) table (getD entries k 0) h inside free)
+  module _ (entries : List ℕ) (k : ℕ) (l : k < length entries) where
+    abbrev entry : ℕ
+    entry = getD entries k 0
 
-  pub claims-refused : (entries table : List ℕ) (k : ℕ) → k < length entries → Claims (take k entries) table
-      → (uses (getD entries k 0) ≡ true → key (getD entries k 0) < length table)
-      → isFree uses key table (getD entries k 0) ≡ false
-      → (uses (getD entries k 0) ≡ true) × (2 ≤ length (filter (wants (key (getD entries k 0))) entries))
-  claims-refused entries table k l h inside taken =
-      let e = getD entries k 0 in
-      let (used, two) = claims-clash (take k entries) table e (drop (suc k) entries) h inside taken in
-      (used, subst (λ (xs : List ℕ). 2 ≤ length (filter (wants (key e)) xs)) (sym (split-at entries k 0 l)) two)
+    pub claims-more : (before after : List ℕ) → Claims uses key part (take k entries) before
+        → (uses entry ≡ true → key entry < 256) → isFree uses key part before entry ≡ true
+        → Claimed uses key part before after entry → Claims uses key part (take (k + 1) entries) after
+    claims-more before after h inside free made =
+        let taken : take (k + 1) entries ≡ take k entries ++ entry ∷ [] =
+        ap (λ (n : ℕ). take n entries) (add-one k) ∙ take-suc entries k 0 l in
+        rw taken (claims-last (take k entries) before after entry h inside free made)
 
-  pub claims-all : (entries table : List ℕ) (k : ℕ) → length entries ≤ k → Claims (take k entries) table
-      → Claims entries table
-  claims-all entries table k l h = subst (λ (xs : List ℕ). Claims xs table) (take-all k entries l) h
+    pub claims-refused : (claims : List ℕ) → Claims uses key part (take k entries) claims
+        → (uses entry ≡ true → key entry < 256) → isFree uses key part claims entry ≡ false
+        → (uses entry ≡ true) × (2 ≤ length (wanting (key entry) entries))
+    claims-refused claims h inside taken =
+        let (used, two) = claims-clash (take k entries) claims entry (drop (suc k) entries) h inside taken in
+        (used, subst (λ (xs : List ℕ). 2 ≤ length (wanting (key entry) xs)) (sym (split-at entries k 0 l)) two)
+
+    -- no entry before it wants a slot that is free
+    pub claims-apart : (claims : List ℕ) → Claims uses key part (take k entries) claims
+        → key entry < 256 → rankIn claims part (key entry) ≡ 0
+        → (j : ℕ) → j < k → uses (getD entries j 0) ≡ true → key (getD entries j 0) ≢ key entry
+    claims-apart claims h inside free j m used same =
+        let at = getD-take k entries j 0 m in
+        let short = length-take-le k entries (omega arith) in
+        let wanted = both used (eq-eqb (key (getD entries j 0)) (key entry) same) in
+        filter-some (wants uses key part (key entry)) (take k entries) j (omega arith)
+        (rw at wanted) (no-rank _ (sym (h (key entry) .rank inside) ∙ free))
+
+  pub claims-all : (entries claims : List ℕ) (k : ℕ) → length entries ≤ k
+      → Claims uses key part (take k entries) claims → Claims uses key part entries claims
+  claims-all entries claims k l h =
+      subst (λ (xs : List ℕ). Claims uses key part xs claims) (take-all k entries l) h

@@ -1,25 +1,79 @@
--- What the code of a cycle may rely on: its entries are marked nodes, and their names are in range of the tables.
-use mathlib.Core.Path.{_≡_, sym, ap, subst}
-use mathlib.Core.Bool.{Bool, true}
-use mathlib.Core.List.{List}
-use Prim.Native.Nat.{ℕ, _*_, _<_}
+-- What the code of a cycle may rely on: its entries are marked nodes, their names are in range, and its expressions can
+-- be worked.
+use mathlib.Core.Path.{_≡_, refl, sym, ap, _∙_, subst}
+use mathlib.Core.Bool.{Bool, true, false, cond, _&&_}
+use mathlib.Core.List.{List, [], _∷_, foldl}
+use Prim.Native.Nat.{ℕ, suc, _+_, _*_, _≤_, _<_}
 use native.Mathlib.Nat.{lt-of-lt-of-le}
-use lib.Dec.{leb}
-use lib.ListN.{length, getD}
-use Rattle.semantics.specs.Numbers.{filter}
-use Rattle.semantics.specs.Program.{nodeCount, aAt, bAt}
-use Rattle.semantics.specs.Check.{rangeOk}
+use native.Mathlib.Numerals.{add-one}
+use native.Mathlib.Omega.{arith}
+use lib.Dec.{eqb, leb}
+use lib.ListN.{length, getD, drop}
+use lib.Seq.{drop-cons}
+use borrow.Author.Tests.{eqb-true}
+use Rattle.semantics.specs.Numbers.{below, filter}
+use Rattle.semantics.specs.Program.{exprCount, nodeCount, kindOf, aAt, bAt}
+use Rattle.semantics.specs.Check.{referencesOk}
 use Rattle.semantics.specs.State.{marked, active}
 use Rattle.semantics.specs.Completion.{isAsg, isIn, isOut}
-use Rattle.semantics.proofs.EntriesLaws.{active-means}
-use Rattle.semantics.proofs.ActiveLaws.{marked-below}
-use Rattle.semantics.proofs.EntryCounts.{entry-count}
-use Rattle.semantics.proofs.LeafKinds.{asg-names, in-names, out-names}
-use Rattle.player.specs.Cycles.{CycleOf, program, hasKind}
+use Rattle.semantics.proofs.Lists.Logic.{and-left, and-right}
+use Rattle.semantics.proofs.Lists.NumberLaws.{filter-filter}
+use Rattle.semantics.proofs.Run.EntriesLaws.{active-means, active-once, timesIn}
+use Rattle.semantics.proofs.Lists.ActiveLaws.{marked-below}
+use Rattle.semantics.proofs.Run.EntryCounts.{entry-count}
+use Rattle.semantics.proofs.Lists.LeafKinds.{asg-names, in-names, out-names}
+use Rattle.player.specs.Work.{Formulas}
+use Rattle.player.specs.Channels.{CycleOf, PairedEntry, program, hasKind}
+
+-- ---- what passes a test
+
+filter-index : (f : ℕ → Bool) (xs : List ℕ) → 1 ≤ length (filter f xs)
+    → (k : ℕ) × (k < length xs) × (f (getD xs k 0) ≡ true)
+unfolding filter
+filter-index f [] l = absurd (omega arith)
+filter-index f (x ∷ xs) l = pick (f x) refl l (filter-index f xs)
+  where
+    pick : (b : Bool) → f x ≡ b → 1 ≤ length (cond b (x ∷ filter f xs) (filter f xs))
+        → (1 ≤ length (filter f xs) → (k : ℕ) × (k < length xs) × (f (getD xs k 0) ≡ true))
+        → (k : ℕ) × (k < suc (length xs)) × (f (getD (x ∷ xs) k 0) ≡ true)
+    pick true e l later = (0, omega arith, e)
+    pick false e l later = let (k, m, h) = later l in (suc k, omega arith, h)
+
+filter-first : (f : ℕ → Bool) (xs : List ℕ) (y : ℕ) (ys : List ℕ) → filter f xs ≡ y ∷ ys → f y ≡ true
+unfolding filter
+filter-first f [] y ys e = absurd (let z : _≡_ {A = ℕ} 0 1 = cc in omega arith)
+filter-first f (x ∷ xs) y ys e = pick (f x) refl e (filter-first f xs y ys)
+  where
+    pick : (b : Bool) → f x ≡ b → cond b (x ∷ filter f xs) (filter f xs) ≡ y ∷ ys
+        → (filter f xs ≡ y ∷ ys → f y ≡ true) → f y ≡ true
+    pick true h q later = let same : x ≡ y = cc in subst (λ (k : ℕ). f k ≡ true) same h
+    pick false h q later = later q
+
+-- the first of the active statements that pass a test
+pub first-active : (marks : List ℕ) (f : ℕ → Bool) (y : ℕ) (ys : List ℕ) → filter f (active marks) ≡ y ∷ ys
+    → (marked marks y ≡ true) × (f y ≡ true)
+first-active marks f y ys e =
+    let all = sym (filter-filter (marked marks) f (below (length marks))) ∙ e in
+    let h = filter-first (λ i. marked marks i && f i) (below (length marks)) y ys all in
+    (and-left _ _ h, and-right (marked marks y) _ h)
+
+-- ---- the entries
+
+-- a fold over the entries from k on
+pub fold-next : {A : Type 0} (step : A → ℕ → A) (a : A) (entries : List ℕ) (k : ℕ) → k < length entries
+    → foldl step a (drop k entries) ≡ foldl step (step a (getD entries k 0)) (drop (k + 1) entries)
+fold-next step a entries k l = rw (add-one k, drop-cons entries k 0 l)
 
 module _ {nodes entries : List ℕ} (x : CycleOf nodes entries) where
   pub entry-marked : (k : ℕ) → k < length entries → marked (x .marks) (getD entries k 0) ≡ true
   entry-marked = active-means (x .marks) entries .0 (x .entriesActive) .eachMarked
+
+  pub marked-entry : (i : ℕ) → marked (x .marks) i ≡ true
+      → (k : ℕ) × (k < length entries) × (getD entries k 0 ≡ i)
+  marked-entry i m =
+      let once : timesIn i entries ≡ 1 = active-once (x .marks) entries (x .entriesActive) i ∙ rw m in
+      let (k, l, e) = filter-index (λ e. eqb e i) entries (omega arith) in
+      (k, l, eqb-true (getD entries k 0) i e)
 
   -- at most one active statement passes a test when at most one entry does
   pub single-entries : (f : ℕ → Bool)
@@ -30,10 +84,7 @@ module _ {nodes entries : List ℕ} (x : CycleOf nodes entries) where
     pub marked-node : i < nodeCount nodes
     marked-node = subst (λ (n : ℕ). i < n) (x .marksFit) (marked-below (x .marks) i m)
 
-    pub marked-small : i < 1024
-    marked-small = lt-of-lt-of-le marked-node (x .accepted .sizes .nodesFit)
-
-    names : rangeOk (program x) i ≡ true
+    names : referencesOk (program x) i ≡ true
     names = x .accepted .rangesOk i marked-node
 
     -- the channel of an IN or OUT, the variable of an ASG or IN
@@ -46,6 +97,13 @@ module _ {nodes entries : List ℕ} (x : CycleOf nodes entries) where
     pub asg-variable : hasKind nodes isAsg i ≡ true → aAt nodes i < x .variables
     asg-variable k = asg-names (program x) (getD nodes (5 * i) 0) (aAt nodes i) (bAt nodes i) names k .0
 
+    -- the expression of an ASG or OUT
+    pub asg-expression : hasKind nodes isAsg i ≡ true → bAt nodes i < exprCount (x .exprs)
+    asg-expression k = asg-names (program x) (getD nodes (5 * i) 0) (aAt nodes i) (bAt nodes i) names k .1
+
+    pub out-expression : hasKind nodes isOut i ≡ true → bAt nodes i < exprCount (x .exprs)
+    out-expression k = out-names (program x) (getD nodes (5 * i) 0) (aAt nodes i) (bAt nodes i) names k .1
+
     pub in-variable : hasKind nodes isIn i ≡ true → bAt nodes i < x .variables
     in-variable k = in-names (program x) (getD nodes (5 * i) 0) (aAt nodes i) (bAt nodes i) names k .1
 
@@ -55,3 +113,25 @@ module _ {nodes entries : List ℕ} (x : CycleOf nodes entries) where
 
   pub variable-fits : {v : ℕ} → v < x .variables → v < 256
   variable-fits l = lt-of-lt-of-le l (x .accepted .sizes .variablesFit)
+
+  pub cycle-formulas : (values : List ℕ) → length values ≡ x .variables → Formulas (x .exprs) values
+  cycle-formulas values fit = record {
+    exprsFit = x .accepted .sizes .exprsFit;
+    valuesFit = rw fit (x .accepted .sizes .variablesFit);
+    ok = λ e l. rw fit (x .accepted .exprsOk e l);
+  }
+
+-- ---- a marked node
+
+module _ {nodes claims : List ℕ} {i : ℕ} (x : PairedEntry nodes claims i) where
+  pub entry-node : i < nodeCount nodes
+  entry-node = marked-node (x .cycle) i (x .isMarked)
+
+  -- the channel of an IN, and of an OUT
+  pub in-fits : getD nodes (5 * i) 0 ≡ 4 → aAt nodes i < 256
+  unfolding kindOf
+  in-fits w = channel-fits (x .cycle) (in-channel (x .cycle) i (x .isMarked) (rw w))
+
+  pub out-fits : getD nodes (5 * i) 0 ≡ 5 → aAt nodes i < 256
+  unfolding kindOf
+  out-fits w = channel-fits (x .cycle) (out-channel (x .cycle) i (x .isMarked) (rw w))

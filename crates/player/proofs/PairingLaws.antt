@@ -1,90 +1,127 @@
--- The two tables of channels: claimed entry by entry they answer question 8 and say which IN and OUT are marked on each
+-- The claims of channels: made entry by entry they answer question 8 and say which IN and OUT are marked on each
 -- channel, and so which leaves wait.
 use mathlib.Core.Path.{_≡_, refl, sym, ap, _∙_}
 use mathlib.Core.Bool.{Bool, true, false, _&&_, true≢false, or-false}
 use mathlib.Core.List.{List, [], _∷_}
 use mathlib.Core.Logic.{_≢_, _⊎_, inl, inr}
-use Prim.Native.Nat.{ℕ, _+_, _*_, _≤_, _<_}
+use Prim.Native.Nat.{ℕ, _+_, _-_, _*_, _≤_, _<_}
 use native.Mathlib.Omega.{arith}
 use lib.Dec.{eqb, leb, eqb·suc-zero}
-use lib.ListN.{length, getD, take, replicate, length-replicate}
+use lib.ListN.{length, getD, take}
 use borrow.Author.Tests.{le-leb, leb-true, ne-eqb}
 use Rattle.semantics.specs.Numbers.{filter}
 use Rattle.semantics.specs.Program.{Leaf, kindOf, aAt}
 use Rattle.semantics.specs.State.{marked}
 use Rattle.semantics.specs.Completion.{isIn, isOut, isEmpty, markedOn, waits, channelsFree}
-use Rattle.semantics.proofs.Logic.{and-left, and-right, both, refuted}
-use Rattle.semantics.proofs.NumberLaws.{every-below, all-below}
-use Rattle.semantics.proofs.EntryCounts.{single-entry}
-use Rattle.semantics.proofs.LeafKinds.{in-number, out-number}
-use Rattle.player.specs.Claims.{rankOf, isFree}
-use Rattle.player.specs.Cycles.{CycleOf, Ranked, Pairing, program, hasKind, claimedBy, bothFree}
-use Rattle.player.proofs.ClaimLaws.{Claims, wants, claims-none, claims-more, claims-refused, claims-all}
-use Rattle.player.proofs.ClaimLaws.{claimed-length}
+use Rattle.semantics.proofs.Lists.Logic.{and-left, and-right, both, refuted, lt-or-le}
+use Rattle.semantics.proofs.Lists.NumberLaws.{every-below, all-below}
+use Rattle.semantics.proofs.Run.EntryCounts.{single-entry}
+use Rattle.semantics.proofs.Lists.LeafKinds.{in-number, out-number}
+use Rattle.player.specs.Claims.{rankOf, rankIn, isFree, Claims, Aged, Fresh}
+use Rattle.player.specs.Channels.{CycleOf, Ranked, Paired, Pairing, EntryPairing, Unwritten, program, hasKind}
+use Rattle.player.proofs.RankLaws.{fresh-rank}
+use Rattle.player.proofs.ClaimLaws.{claims-none, claims-more, claims-refused, claims-all}
 use Rattle.player.proofs.CycleLaws.{entry-marked, single-entries, in-channel, out-channel, channel-fits}
 
 empty-rank : (xs : List ℕ) → isEmpty xs ≡ eqb (rankOf xs) 0
 empty-rank [] = refl
 empty-rank (y ∷ ys) = eqb·suc-zero (length ys) ∙ sym (eqb·suc-zero y)
 
--- The first k entries have claimed their channels.
-pub record PairedTo (nodes entries : List ℕ) (k : ℕ) (ins outs : List ℕ) : Type 0 where
-  pub insFit : length ins ≡ 256
-  pub outsFit : length outs ≡ 256
-  pub insClaimed : Claims (hasKind nodes isIn) (aAt nodes) (take k entries) ins
-  pub outsClaimed : Claims (hasKind nodes isOut) (aAt nodes) (take k entries) outs
+-- ---- the stamps
 
-pub paired-none : (nodes entries : List ℕ) → PairedTo nodes entries 0 (replicate 256 0) (replicate 256 0)
-paired-none nodes entries = record {
-  insFit = length-replicate {A = ℕ} 256 0;
-  outsFit = length-replicate {A = ℕ} 256 0;
-  insClaimed = claims-none (hasKind nodes isIn) (aAt nodes) 256;
-  outsClaimed = claims-none (hasKind nodes isOut) (aAt nodes) 256;
+-- Since `before` only channels were claimed.
+pub record ChannelsOnly (before claims : List ℕ) : Type 0 where
+  pub unwritten : Unwritten claims
+  pub aged : Aged claims (getD before 2048 0)
+  pub stamp : getD claims 2048 0 ≡ getD before 2048 0
+
+fresh-channels : {claims : List ℕ} → Fresh claims → ChannelsOnly claims claims
+fresh-channels {claims} f = record {
+  unwritten = λ v l. f .stamps (512 + v) (omega arith);
+  aged = record { size = f .size; stamps = λ j l. omega (arith, f .stamps j l) };
+  stamp = refl;
+}
+
+more-channels : {nodes : List ℕ} {i : ℕ} {free : Bool} {start before claims : List ℕ} → ChannelsOnly start before
+    → EntryPairing nodes i free before claims → ChannelsOnly start claims
+more-channels {nodes} {i} {free} {start} {before} {claims} h p = record {
+  unwritten = λ v l. rw (p .writers v l, p .stamp) (h .unwritten v l);
+  aged = record { size = p .size ∙ h .aged .size; stamps = below };
+  stamp = p .stamp ∙ h .stamp;
+}
+  where
+    below : (j : ℕ) → j < 768 → getD claims j 0 ≤ getD start 2048 0
+    below j l =
+        elim (lt-or-le j 512) [
+          | inl m ↦ elim (p .stamps j m) [
+            | inl e ↦ rw e (h .aged .stamps j l)
+            | inr e ↦ omega (arith, e, h .stamp)
+          ]
+          | inr m ↦
+              let at : 512 + (j - 512) ≡ j = omega arith in
+              let same : getD claims j 0 ≡ getD before j 0 = rw at at (p .writers (j - 512) (omega arith)) in
+              rw same (h .aged .stamps j l)
+        ]
+
+-- The first k entries have claimed their channels.
+pub record PairedTo (nodes entries : List ℕ) (k : ℕ) (before claims : List ℕ) : Type 0 where
+  pub ins : Claims (hasKind nodes isIn) (aAt nodes) 0 (take k entries) claims
+  pub outs : Claims (hasKind nodes isOut) (aAt nodes) 256 (take k entries) claims
+  pub only : ChannelsOnly before claims
+
+pub paired-none : (nodes entries : List ℕ) {claims : List ℕ} → Fresh claims → PairedTo nodes entries 0 claims claims
+paired-none nodes entries {claims} f = record {
+  ins = claims-none (hasKind nodes isIn) (aAt nodes) 0 claims (λ c l. fresh-rank 0 c f (omega arith));
+  outs = claims-none (hasKind nodes isOut) (aAt nodes) 256 claims (λ c l. fresh-rank 256 c f (omega arith));
+  only = fresh-channels f;
 }
 
 module _ {nodes entries : List ℕ} (x : CycleOf nodes entries) where
   -- the entries that are a leaf of that kind on a channel are the marked ones
   abbrev onChannel : (Leaf → Bool) → ℕ → List ℕ
-  onChannel f c = filter (wants (hasKind nodes f) (aAt nodes) c) entries
+  onChannel f c = filter (λ i. hasKind nodes f i && eqb (aAt nodes i) c) entries
 
   -- at most one is marked on the channel
   abbrev single : (Leaf → Bool) → ℕ → Bool
   single f c = leb (length (markedOn (program x) (x .marks) f c)) 1
 
   on-single : (f : Leaf → Bool) (c : ℕ) → single f c ≡ leb (length (onChannel f c)) 1
-  on-single f c = single-entries x (wants (hasKind nodes f) (aAt nodes) c)
+  on-single f c = single-entries x (λ i. hasKind nodes f i && eqb (aAt nodes i) c)
 
   on-same : (f : Leaf → Bool) (c : ℕ) → length (onChannel f c) ≤ 1
       → onChannel f c ≡ markedOn (program x) (x .marks) f c
-  on-same f c = single-entry (x .marks) entries (x .entriesActive) (wants (hasKind nodes f) (aAt nodes) c)
+  on-same f c = single-entry (x .marks) entries (x .entriesActive) (λ i. hasKind nodes f i && eqb (aAt nodes i) c)
 
   -- ---- question 8
 
   -- each entry has claimed its channel
-  all-paired : {ins outs : List ℕ} → length ins ≡ 256 → length outs ≡ 256
-      → Claims (hasKind nodes isIn) (aAt nodes) entries ins → Claims (hasKind nodes isOut) (aAt nodes) entries outs
-      → Pairing x true ins outs
+  all-paired : {before claims : List ℕ} → ChannelsOnly before claims
+      → Claims (hasKind nodes isIn) (aAt nodes) 0 entries claims
+      → Claims (hasKind nodes isOut) (aAt nodes) 256 entries claims → Pairing x true before claims
   unfolding channelsFree
-  all-paired {ins} {outs} li lo hi ho = record {
+  all-paired {before} {claims} o hi ho = record {
     answer = sym (all-below (λ c. single isIn c && single isOut c) (x .channels) (λ c l. both
         (on-single isIn c ∙ le-leb _ 1 (hi c .single)) (on-single isOut c ∙ le-leb _ 1 (ho c .single))));
-    paired = λ r. record { inputs = ranked isIn li hi; outputs = ranked isOut lo ho };
+    paired = λ r. record { size = o .aged .size; inputs = ranked isIn 0 hi; outputs = ranked isOut 256 ho };
+    unwritten = o .unwritten;
+    aged = o .aged;
+    stamp = o .stamp;
   }
     where
-      ranked : (f : Leaf → Bool) {table : List ℕ} → length table ≡ 256
-          → Claims (hasKind nodes f) (aAt nodes) entries table → Ranked x f table
-      ranked f l h = record {
-        tableFits = l;
-        rank = λ c i. h c .rank (rw l i) ∙ ap rankOf (on-same f c (h c .single));
-      }
+      ranked : (f : Leaf → Bool) (part : ℕ) → Claims (hasKind nodes f) (aAt nodes) part entries claims
+          → Ranked x f part claims
+      ranked f part h c l = h c .rank l ∙ ap rankOf (on-same f c (h c .single))
 
   -- two entries want one channel
-  not-paired : {ins outs : List ℕ} (c : ℕ) → c < x .channels
-      → (2 ≤ length (onChannel isIn c)) ⊎ (2 ≤ length (onChannel isOut c)) → Pairing x false ins outs
+  not-paired : {before claims : List ℕ} (c : ℕ) → ChannelsOnly before claims → c < x .channels
+      → (2 ≤ length (onChannel isIn c)) ⊎ (2 ≤ length (onChannel isOut c)) → Pairing x false before claims
   unfolding channelsFree
-  not-paired c l two = record {
+  not-paired c o l two = record {
     answer = sym (refuted _ (λ h. clash (every-below (λ c. single isIn c && single isOut c) (x .channels) h c l) two));
     paired = λ r. absurd (true≢false (sym r));
+    unwritten = o .unwritten;
+    aged = o .aged;
+    stamp = o .stamp;
   }
     where
       twice : (f : Leaf → Bool) → single f c ≡ true → 2 ≤ length (onChannel f c) → ⊥
@@ -97,63 +134,65 @@ module _ {nodes entries : List ℕ} (x : CycleOf nodes entries) where
 
   -- ---- entry by entry
 
-  module _ {k : ℕ} {ins outs : List ℕ} (h : PairedTo nodes entries k ins outs) where
-    pub paired-all : length entries ≤ k → Pairing x true ins outs
+  module _ {k : ℕ} {before claims : List ℕ} (h : PairedTo nodes entries k before claims) where
+    pub paired-all : length entries ≤ k → Pairing x true before claims
     paired-all l =
-        all-paired (h .insFit) (h .outsFit)
-        (claims-all (hasKind nodes isIn) (aAt nodes) entries ins k l (h .insClaimed))
-        (claims-all (hasKind nodes isOut) (aAt nodes) entries outs k l (h .outsClaimed))
+        all-paired (h .only) (claims-all (hasKind nodes isIn) (aAt nodes) 0 entries claims k l (h .ins))
+        (claims-all (hasKind nodes isOut) (aAt nodes) 256 entries claims k l (h .outs))
 
     module _ (l : k < length entries) where
       abbrev entry : ℕ
       entry = getD entries k 0
 
-      -- its channel is in range of the tables
-      pub in-inside : hasKind nodes isIn entry ≡ true → aAt nodes entry < length ins
-      in-inside i = rw (h .insFit) (channel-fits x (in-channel x entry (entry-marked x k l) i))
+      -- its channel is in range
+      pub in-inside : hasKind nodes isIn entry ≡ true → aAt nodes entry < 256
+      in-inside i = channel-fits x (in-channel x entry (entry-marked x k l) i)
 
-      pub out-inside : hasKind nodes isOut entry ≡ true → aAt nodes entry < length outs
-      out-inside i = rw (h .outsFit) (channel-fits x (out-channel x entry (entry-marked x k l) i))
+      pub out-inside : hasKind nodes isOut entry ≡ true → aAt nodes entry < 256
+      out-inside i = channel-fits x (out-channel x entry (entry-marked x k l) i)
 
-      pub paired-more : bothFree nodes ins outs entry ≡ true
-          → PairedTo nodes entries (k + 1) (claimedBy nodes isIn ins entry) (claimedBy nodes isOut outs entry)
-      paired-more free = record {
-        insFit = claimed-length (hasKind nodes isIn) (aAt nodes) ins entry ∙ h .insFit;
-        outsFit = claimed-length (hasKind nodes isOut) (aAt nodes) outs entry ∙ h .outsFit;
-        insClaimed = claims-more (hasKind nodes isIn) (aAt nodes) entries ins k l (h .insClaimed) in-inside
-            (and-left _ _ free);
-        outsClaimed = claims-more (hasKind nodes isOut) (aAt nodes) entries outs k l (h .outsClaimed) out-inside
-            (and-right (isFree (hasKind nodes isIn) (aAt nodes) ins entry) _ free);
+      pub paired-more : {claims′ : List ℕ} → EntryPairing nodes entry true claims claims′
+          → PairedTo nodes entries (k + 1) before claims′
+      paired-more {claims′} p = record {
+        ins = claims-more (hasKind nodes isIn) (aAt nodes) 0 entries k l claims claims′ (h .ins) in-inside
+            (and-left _ _ (sym (p .wasFree))) (p .inputs refl);
+        outs = claims-more (hasKind nodes isOut) (aAt nodes) 256 entries k l claims claims′ (h .outs) out-inside
+            (and-right (isFree (hasKind nodes isIn) (aAt nodes) 0 claims entry) _ (sym (p .wasFree))) (p .outputs refl);
+        only = more-channels (h .only) p;
       }
 
-      pub paired-refused : {ins′ outs′ : List ℕ} → bothFree nodes ins outs entry ≡ false → Pairing x false ins′ outs′
-      paired-refused {ins′} {outs′} taken = pick (isFree (hasKind nodes isIn) (aAt nodes) ins entry) refl taken
+      pub paired-refused : {claims′ : List ℕ} → EntryPairing nodes entry false claims claims′
+          → Pairing x false before claims′
+      paired-refused {claims′} p =
+          pick (isFree (hasKind nodes isIn) (aAt nodes) 0 claims entry) refl (sym (p .wasFree))
         where
-          pick : (b : Bool) → isFree (hasKind nodes isIn) (aAt nodes) ins entry ≡ b
-              → b && isFree (hasKind nodes isOut) (aAt nodes) outs entry ≡ false → Pairing x false ins′ outs′
+          pick : (b : Bool) → isFree (hasKind nodes isIn) (aAt nodes) 0 claims entry ≡ b
+              → b && isFree (hasKind nodes isOut) (aAt nodes) 256 claims entry ≡ false → Pairing x false before claims′
           pick true e t =
-              let r = claims-refused (hasKind nodes isOut) (aAt nodes) entries outs k l (h .outsClaimed) out-inside t in
-              not-paired (aAt nodes entry) (out-channel x entry (entry-marked x k l) (r .0)) (inr (r .1))
+              let r = claims-refused (hasKind nodes isOut) (aAt nodes) 256 entries k l claims (h .outs) out-inside t in
+              not-paired (aAt nodes entry) (more-channels (h .only) p)
+              (out-channel x entry (entry-marked x k l) (r .0)) (inr (r .1))
           pick false e t =
-              let r = claims-refused (hasKind nodes isIn) (aAt nodes) entries ins k l (h .insClaimed) in-inside e in
-              not-paired (aAt nodes entry) (in-channel x entry (entry-marked x k l) (r .0)) (inl (r .1))
+              let r = claims-refused (hasKind nodes isIn) (aAt nodes) 0 entries k l claims (h .ins) in-inside e in
+              not-paired (aAt nodes entry) (more-channels (h .only) p)
+              (in-channel x entry (entry-marked x k l) (r .0)) (inl (r .1))
 
   -- ---- which leaves wait
 
-  module _ (i : ℕ) (m : marked (x .marks) i ≡ true) {table : List ℕ} where
-    pub in-waits : Ranked x isOut table → getD nodes (5 * i) 0 ≡ 4
-        → waits (program x) (x .marks) i ≡ eqb (getD table (aAt nodes i) 0) 0
+  module _ (i : ℕ) (m : marked (x .marks) i ≡ true) {claims : List ℕ} (p : Paired x claims) where
+    pub in-waits : getD nodes (5 * i) 0 ≡ 4
+        → waits (program x) (x .marks) i ≡ eqb (rankIn claims 256 (aAt nodes i)) 0
     unfolding waits kindOf
-    in-waits p w =
+    in-waits w =
         rw (w, or-false) (empty-rank (markedOn (program x) (x .marks) isOut (aAt nodes i))
-        ∙ ap (λ (n : ℕ). eqb n 0) (sym (p .rank (aAt nodes i) (channel-fits x (in-channel x i m (rw w))))))
+        ∙ ap (λ (n : ℕ). eqb n 0) (sym (p .outputs (aAt nodes i) (channel-fits x (in-channel x i m (rw w))))))
 
-    pub out-waits : Ranked x isIn table → getD nodes (5 * i) 0 ≡ 5
-        → waits (program x) (x .marks) i ≡ eqb (getD table (aAt nodes i) 0) 0
+    pub out-waits : getD nodes (5 * i) 0 ≡ 5
+        → waits (program x) (x .marks) i ≡ eqb (rankIn claims 0 (aAt nodes i)) 0
     unfolding waits kindOf
-    out-waits p w =
+    out-waits w =
         rw w (empty-rank (markedOn (program x) (x .marks) isIn (aAt nodes i))
-        ∙ ap (λ (n : ℕ). eqb n 0) (sym (p .rank (aAt nodes i) (channel-fits x (out-channel x i m (rw w))))))
+        ∙ ap (λ (n : ℕ). eqb n 0) (sym (p .inputs (aAt nodes i) (channel-fits x (out-channel x i m (rw w))))))
 
   -- no other leaf waits
   pub never-waits : (i : ℕ) → getD nodes (5 * i) 0 ≢ 4 → getD nodes (5 * i) 0 ≢ 5

@@ -2,70 +2,37 @@
 -- loop. Before each cycle the rules' run from the start is the run of the cycles left, from the lists as they are, by
 -- the entries not read yet, with the cycles worked so far counted in.
 use mathlib.Core.Path.{_≡_, refl, sym, ap, _∙_, subst}
-use mathlib.Core.Bool.{Bool, true, false, cond}
-use mathlib.Core.List.{List, _++_}
-use mathlib.Core.Logic.{_≢_}
-use Prim.Native.Nat.{ℕ, zero, suc, _+_, _-_, _≤_, _<_, min, zero-le}
-use native.Mathlib.Nat.{add-zero, sub-zero, zero-sub, suc-sub-suc, min-le-right}
+use mathlib.Core.Bool.{Bool, false, cond}
+use mathlib.Core.List.{List}
+use mathlib.Core.Logic.{_≢_, inl, inr}
+use Prim.Native.Nat.{ℕ, suc, _+_, _-_, _≤_, _<_, zero-le}
+use native.Mathlib.Nat.{add-zero, sub-zero, min-le-right}
 use native.Mathlib.Omega.{arith}
-use lib.ListN.{length, take, drop, replicate, length-take, length-drop, length-replicate}
+use lib.ListN.{length, take, drop, length-take, length-drop}
 use lib.Seq.{take-all, drop-drop}
 use borrow.Author.Tests.{eq-eqb, ne-eqb}
-use Rattle.semantics.specs.Program.{Program, exprCount}
-use Rattle.semantics.specs.Expressions.{firstValues}
-use Rattle.semantics.specs.Check.{isFaultItem}
+use Rattle.semantics.specs.Program.{Program}
 use Rattle.semantics.specs.State.{State, markCount, ended}
-use Rattle.semantics.specs.Cycle.{areActive}
-use Rattle.semantics.specs.Cycle.Outcome.{refused, worked as worked-to}
-use Rattle.semantics.specs.Run.{Run, run, stopped, oneMore, entries, later}
-use Rattle.semantics.proofs.RunLaws.{refused-number, answerOf, workedBefore, none-before, Refuses, WorksTo}
-use Rattle.semantics.proofs.RunLaws.{run-no-cycle, run-ended, run-refused, run-worked}
-use Rattle.semantics.proofs.FirstWrong.{worked-active}
-use Rattle.semantics.proofs.EntriesLaws.{active-means}
-use Rattle.semantics.proofs.CycleOrder.{leaves-ready}
-use Rattle.semantics.proofs.OrderRule.{answer-of-run}
-use Rattle.player.specs.Running.{Runnable, CycleAnswer, Scratch}
+use Rattle.semantics.specs.Cycle.Outcome.{refused, advancesTo}
+use Rattle.semantics.specs.Run.{Run, run, stopped, oneMore, nextEntries, laterEntries}
+use Rattle.semantics.proofs.Run.RunLaws.{answerOf, workedBefore, none-before, Refuses, WorksTo}
+use Rattle.semantics.proofs.Run.RunLaws.{run-no-cycle, run-ended, run-refused, run-worked}
+use Rattle.semantics.proofs.Run.FirstWrong.{worked-active}
+use Rattle.semantics.proofs.Run.EntriesLaws.{active-means}
+use Rattle.semantics.proofs.Order.CycleOrder.{leaves-ready}
+use Rattle.semantics.proofs.Order.OrderRule.{answer-of-run}
+use Rattle.player.specs.Cycle.{Runnable, CycleAnswer}
 use Rattle.player.specs.Run.{RunAnswer}
-use Rattle.player.proofs.CycleStepLaws.{refilled}
-use Rattle.player.proofs.RunAnswerLaws.{by-answer}
+use Rattle.player.proofs.RunAnswerLaws.{at-least-7, CyclesNumber, no-item, by-answer}
 
 -- the part of a list from one place on, as the code lends it
 pub part-from : (xs : List ℕ) (a : ℕ) → take (length xs - a) (drop a xs) ≡ drop a xs
 part-from xs a = take-all (length xs - a) (drop a xs) (simp length-drop (omega arith))
 
-drop-zeros : (n size : ℕ) → drop {A = ℕ} n (replicate size 0) ≡ replicate (size - n) 0
-drop-zeros zero size = ap (λ (x : ℕ). replicate x 0) (sym (sub-zero size))
-drop-zeros (suc n) zero = ap (λ (x : ℕ). replicate x 0) (sym (zero-sub (suc n)))
-drop-zeros (suc n) (suc size) = drop-zeros n size ∙ ap (λ (x : ℕ). replicate x 0) (sym (suc-sub-suc size n))
-
--- the scratch that a run begins with: zeros, and the table filled from zeros
-pub first-scratch : {exprs values table : List ℕ} → exprCount exprs ≤ 1024
-    → (let n = min (exprCount exprs) (length (replicate {A = ℕ} 1024 0)) in
-    table ≡ firstValues exprs values n ++ drop n (replicate 1024 0))
-    → Scratch exprs values table (replicate 256 0) (replicate 1024 0) (replicate 1024 0)
-first-scratch {exprs} room filled =
-    record {
-      tableFilled = refilled room
-          (record { size = length-replicate {A = ℕ} 1024 0; rest = drop-zeros (exprCount exprs) 1024 }) filled;
-      valuesFit = length-replicate {A = ℕ} 256 0;
-      marksFit = length-replicate {A = ℕ} 1024 0;
-      countsFit = length-replicate {A = ℕ} 1024 0;
-    }
-
 one-more-before : (k : ℕ) (r : Run) → workedBefore k (oneMore r) ≡ workedBefore (k + 1) r
 one-more-before k r =
     let e : k + suc (r .worked) ≡ (k + 1) + r .worked = omega arith in
     λ i. record { number = r .number; worked = e i; state = r .state; unread = r .unread }
-
--- no item comes with the number of a refused cycle
-no-item : (P : Program) (q : ℕ) → 7 ≤ q → isFaultItem P q 0 ≡ true
-unfolding isFaultItem
-no-item P q l =
-    rw (ne-eqb q 2 (λ e. omega arith), ne-eqb q 3 (λ e. omega arith), ne-eqb q 4 (λ e. omega arith))
-
-at-least-7 : (b : Bool) {q : ℕ} → cond b 8 7 ≤ q → 7 ≤ q
-at-least-7 true l = omega arith
-at-least-7 false l = l
 
 -- k of n cycles are worked, so many entries are read, and the lists are s
 pub record Progress (P : Program) (n : ℕ) (s₀ : State) (book : List ℕ) (s : State) (k read : ℕ) : Type 0 where
@@ -86,26 +53,24 @@ module _ {P : Program} {n : ℕ} {s₀ : State} {book : List ℕ} (start : Runna
       }
 
   module _ {s : State} {k read : ℕ} (p : Progress P n s₀ book s k read) where
-    stops : {q : ℕ} → isFaultItem P q 0 ≡ true → run P (n - k) s (drop read book) ≡ stopped q s (drop read book)
+    stops : {q : ℕ} → CyclesNumber q → run P (n - k) s (drop read book) ≡ stopped q s (drop read book)
         → RunAnswer P n s₀ book q 0 k s
-    stops {q} item e =
+    stops {q} number e =
         by-answer {a = record { number = q; worked = k; state = s }}
         (answer-of-run P (start .accepted) s₀ (start .ready) n book ∙ ap answerOf (p .same ∙ ap (workedBefore k) e)
-        ∙ (λ i. record { number = q; worked = add-zero k i; state = s })) item
+        ∙ (λ i. record { number = q; worked = add-zero k i; state = s })) (no-item P q 0 number)
 
-    -- "the asked number is worked"
+    -- as many as are asked
     pub all-worked : n ≤ k → RunAnswer P n s₀ book 0 0 k s
-    unfolding isFaultItem
     all-worked l =
         let e : n - k ≡ 0 = omega arith in
-        stops refl (ap (λ (x : ℕ). run P x s (drop read book)) e ∙ run-no-cycle P s (drop read book))
+        stops (inl refl) (ap (λ (x : ℕ). run P x s (drop read book)) e ∙ run-no-cycle P s (drop read book))
 
     module _ {m : ℕ} (counted : m ≡ markCount (s .marks)) where
-      -- "the state is ended"
+      -- no mark stands
       pub no-mark : m ≡ 0 → RunAnswer P n s₀ book 0 0 k s
-      unfolding isFaultItem
       no-mark z =
-          stops refl (run-ended P (n - k) s (drop read book) (eq-eqb (markCount (s .marks)) 0 (sym counted ∙ z)))
+          stops (inl refl) (run-ended P (n - k) s (drop read book) (eq-eqb (markCount (s .marks)) 0 (sym counted ∙ z)))
 
       module _ (l : k < n) (some : m ≢ 0) where
         a-mark : ended s ≡ false
@@ -114,15 +79,14 @@ module _ {P : Program} {n : ℕ} {s₀ : State} {book : List ℕ} (start : Runna
         next : n - k ≡ suc (n - (k + 1))
         next = omega arith
 
-        -- "a cycle is refused"
+        -- the cycle is refused
         pub one-refused : {q : ℕ} {s′ : State} → CycleAnswer P s (drop read book) q s′ → q ≢ 0
             → RunAnswer P n s₀ book q 0 k s′
         one-refused {q} {s′} a no-zero =
             let refuses : Refuses P s (drop read book) q =
-            (a-mark, a .outcome ∙ ap (λ (b : Bool). cond b (worked-to s′) (refused q)) (ne-eqb q 0 no-zero)) in
+            (a-mark, a .outcome ∙ ap (λ (b : Bool). cond b (advancesTo s′) (refused q)) (ne-eqb q 0 no-zero)) in
             subst (RunAnswer P n s₀ book q 0 k) (sym (a .kept no-zero))
-            (stops (no-item P q (at-least-7 (areActive (s .marks) (entries s (drop read book)))
-            (refused-number P s (entries s (drop read book)) q (refuses .1) .0)))
+            (stops (inr (at-least-7 P s (nextEntries s (drop read book)) (refuses .1)))
             (ap (λ (x : ℕ). run P x s (drop read book)) next
             ∙ run-refused P (n - (k + 1)) q s (drop read book) refuses))
 
@@ -136,18 +100,18 @@ module _ {P : Program} {n : ℕ} {s₀ : State} {book : List ℕ} (start : Runna
             let ready = p .runnable in
             let enough : markCount (s .marks) ≤ length rest =
             subst (λ (x : ℕ). x ≤ length rest)
-            (sym (length-take (markCount (s .marks)) rest) ∙ active-means (s .marks) (entries s rest) .0 active .asMany)
+            (sym (length-take (markCount (s .marks)) rest) ∙ active-means (s .marks) (nextEntries s rest) .0 active .asMany)
             (min-le-right (markCount (s .marks)) (length rest)) in
             record {
               within = omega arith;
               inside = omega (arith, length-drop read book);
               runnable = record {
                 accepted = ready .accepted;
-                ready = leaves-ready P (ready .accepted) s (ready .ready) s′ (entries s rest) active (a .outcome);
+                ready = leaves-ready P (ready .accepted) s (ready .ready) s′ (nextEntries s rest) active (a .outcome);
               };
               same = p .same ∙ ap (λ (x : ℕ). workedBefore k (run P x s rest)) next
                   ∙ ap (workedBefore k) (run-worked P (n - (k + 1)) s s′ rest works)
-                  ∙ one-more-before k (run P (n - (k + 1)) s′ (later s rest))
+                  ∙ one-more-before k (run P (n - (k + 1)) s′ (laterEntries s rest))
                   ∙ ap (λ (b : List ℕ). workedBefore (k + 1) (run P (n - (k + 1)) s′ b))
                   (drop-drop (markCount (s .marks)) read book ∙ ap (λ (x : ℕ). drop (read + x) book) (sym counted));
             }

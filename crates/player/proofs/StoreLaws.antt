@@ -1,52 +1,49 @@
--- Which entries store, to which variable and what, told by the kind's number and the table of the marked OUT. Then
--- question 9 and the fold of the stores, entry by entry.
+-- Whether a marked node stores, to which variable and what, told by the kind's number and the ranks of the marked OUT.
 use mathlib.Core.Path.{_≡_, refl, sym, ap, _∙_}
-use mathlib.Core.Bool.{Bool, true, false, cond, not, true≢false, and-true, and-false}
-use mathlib.Core.List.{List, [], _∷_, foldl}
+use mathlib.Core.Bool.{Bool, true, false, cond, not, _&&_, true≢false, and-true, and-false}
+use mathlib.Core.List.{List, [], _∷_}
+use mathlib.Core.Option.{Option, some}
 use mathlib.Core.Logic.{_≢_, _⊎_, inl, inr}
-use Prim.Native.Nat.{ℕ, suc, _+_, _-_, _*_, _≤_, _<_}
-use native.Mathlib.Numerals.{add-one}
+use Prim.Native.Nat.{ℕ, _+_, _*_, _<_}
 use native.Mathlib.Omega.{arith}
-use lib.Dec.{eqb, leb, eqb·suc-zero}
-use lib.ListN.{length, getD, set, drop, take}
-use lib.Seq.{drop-cons}
-use borrow.Author.Tests.{le-leb, leb-true, ne-eqb, eqb-false}
-use Rattle.semantics.specs.Numbers.{filter}
-use Rattle.semantics.specs.Program.{kindOf, aAt, bAt}
-use Rattle.semantics.specs.State.{active}
-use Rattle.semantics.specs.Completion.{isAsg, isIn, isOut, headOr, markedOn, waits, stores, source, store, targetsApart}
-use Rattle.semantics.proofs.Logic.{and-right, or-cases, refuted}
-use Rattle.semantics.proofs.NumberLaws.{every-below, all-below}
-use Rattle.semantics.proofs.LeafKinds.{asg-number, in-number}
-use Rattle.player.specs.Claims.{Claim, rankOf, isFree, claimed}
-use Rattle.player.specs.Cycles.{RankedCycle, EntryOf, TargetClaim, program, hasKind, targetAt, senderAt}
-use Rattle.player.proofs.ClaimLaws.{Claims, wants, claims-more, claims-refused, claims-all}
-use Rattle.player.proofs.CycleLaws.{entry-marked, single-entries, in-channel, asg-variable, in-variable}
-use Rattle.player.proofs.CycleLaws.{channel-fits, variable-fits}
+use lib.Dec.{eqb}
+use lib.ListN.{getD, set}
+use borrow.Author.Tests.{ne-eqb, eqb-true, eqb-false}
+use Rattle.semantics.specs.Program.{exprCount, nodeCount, kindOf, aAt, bAt}
+use Rattle.semantics.specs.State.{marked}
+use Rattle.semantics.specs.Completion.{isAsg, isIn, isOut, sentBy, storeValue, markedOn, waits, stores, source, store}
+use Rattle.semantics.proofs.Lists.Logic.{and-left, and-right, or-cases, true-or-false}
+use Rattle.semantics.proofs.Lists.LeafKinds.{asg-number, in-number}
+use Rattle.player.specs.Claims.{rankOf, rankIn}
+use Rattle.player.specs.Channels.{PairedEntry, program, hasKind}
+use Rattle.player.specs.Stores.{targetAt}
+use Rattle.player.proofs.RankLaws.{rank-node}
+use Rattle.player.proofs.CycleLaws.{first-active, marked-node, in-channel, asg-variable, in-variable}
+use Rattle.player.proofs.CycleLaws.{asg-expression, out-expression, channel-fits, variable-fits}
 use Rattle.player.proofs.PairingLaws.{in-waits, never-waits}
 
-rank-head : (d : ℕ) (xs : List ℕ) → cond (eqb (rankOf xs) 0) d (rankOf xs - 1) ≡ headOr d xs
-rank-head d [] = refl
-rank-head d (y ∷ ys) = let e : suc y - 1 ≡ y = omega arith in rw (eqb·suc-zero y) e
+-- ---- one node
 
--- ---- one entry
-
-module _ {nodes outs : List ℕ} {i : ℕ} (x : EntryOf nodes outs i) where
-  -- the entry stores
+module _ {nodes claims : List ℕ} {i : ℕ} (x : PairedEntry nodes claims i) where
+  -- the node stores
   abbrev entryStores : Bool
   entryStores = stores (program (x .cycle)) (x .cycle .marks) i
 
   abbrev entryWaits : Bool
   entryWaits = waits (program (x .cycle)) (x .cycle .marks) i
 
+  -- the expression that it stores
+  abbrev entrySource : Option ℕ
+  entrySource = source (program (x .cycle)) (x .cycle .marks) i
+
   pub asg-stores : getD nodes (5 * i) 0 ≡ 3 → entryStores ≡ true
   unfolding kindOf
   asg-stores w =
       rw (never-waits (x .cycle) i (λ e. eqb-false 3 4 refl (sym w ∙ e)) (λ e. eqb-false 3 5 refl (sym w ∙ e)), w)
 
-  pub in-stores : getD nodes (5 * i) 0 ≡ 4 → entryStores ≡ not (eqb (getD outs (aAt nodes i) 0) 0)
+  pub in-stores : getD nodes (5 * i) 0 ≡ 4 → entryStores ≡ not (eqb (rankIn claims 256 (aAt nodes i)) 0)
   unfolding kindOf
-  in-stores w = rw (in-waits (x .cycle) i (x .isMarked) (x .ranked) w, w) (and-true _)
+  in-stores w = rw (in-waits (x .cycle) i (x .isMarked) (x .paired) w, w) (and-true _)
 
   pub never-stores : getD nodes (5 * i) 0 ≢ 3 → getD nodes (5 * i) 0 ≢ 4 → entryStores ≡ false
   never-stores a b =
@@ -60,6 +57,9 @@ module _ {nodes outs : List ℕ} {i : ℕ} (x : EntryOf nodes outs i) where
   in-kind : entryStores ≡ true → hasKind nodes isAsg i ≡ false → hasKind nodes isIn i ≡ true
   in-kind h a = elim (store-kind h) [ inl e ↦ absurd (true≢false (sym e ∙ a)) | inr e ↦ e ]
 
+  pub other-kind : getD nodes (5 * i) 0 ≢ 3 → hasKind nodes isAsg i ≡ false
+  other-kind a = asg-number (getD nodes (5 * i) 0) ∙ ne-eqb _ 3 a
+
   pub target-inside : entryStores ≡ true → targetAt nodes i < x .cycle .variables
   target-inside h = pick (hasKind nodes isAsg i) refl
     where
@@ -67,90 +67,81 @@ module _ {nodes outs : List ℕ} {i : ℕ} (x : EntryOf nodes outs i) where
       pick true e = asg-variable (x .cycle) i (x .isMarked) e
       pick false e = in-variable (x .cycle) i (x .isMarked) (in-kind h e)
 
-  pub target-claim : {before after : List ℕ} {free : Bool} → entryStores ≡ true
-      → Claim before after (targetAt nodes i) i free → TargetClaim x before after free
-  target-claim s c = record { wasFree = rw s (c .wasFree); isClaimed = λ r. rw s (c .isClaimed ∙ rw r) }
+  pub target-fits : entryStores ≡ true → targetAt nodes i < 256
+  target-fits h = variable-fits (x .cycle) (target-inside h)
 
-  pub no-claim : {before : List ℕ} → entryStores ≡ false → TargetClaim x before before true
-  no-claim s = record { wasFree = rw s; isClaimed = λ r. rw s }
+  -- the channel of an IN that stores
+  pub store-channel : entryStores ≡ true → hasKind nodes isAsg i ≡ false → aAt nodes i < 256
+  store-channel h a = channel-fits (x .cycle) (in-channel (x .cycle) i (x .isMarked) (in-kind h a))
 
-  pub asg-source : getD nodes (5 * i) 0 ≡ 3 → source (program (x .cycle)) (x .cycle .marks) i ≡ bAt nodes i
+  -- ---- the expression that it stores
+
+  pub asg-source : getD nodes (5 * i) 0 ≡ 3 → entrySource ≡ some (bAt nodes i)
   unfolding kindOf
   asg-source w = rw w
 
-  pub in-source : entryStores ≡ true → getD nodes (5 * i) 0 ≢ 3
-      → source (program (x .cycle)) (x .cycle .marks) i ≡ bAt nodes (senderAt nodes outs i)
-  in-source h a =
-      let asg : hasKind nodes isAsg i ≡ false = asg-number (getD nodes (5 * i) 0) ∙ ne-eqb _ 3 a in
-      let inside = channel-fits (x .cycle) (in-channel (x .cycle) i (x .isMarked) (in-kind h asg)) in
-      let on = markedOn (program (x .cycle)) (x .cycle .marks) isOut (aAt nodes i) in
-      rw (asg, x .ranked .rank (aAt nodes i) inside) (ap (bAt nodes) (sym (rank-head i on)))
+  -- the OUT marked on the channel of an IN that stores is the node beside the channel's stamp
+  abbrev sent : List ℕ
+  sent = markedOn (program (x .cycle)) (x .cycle .marks) isOut (aAt nodes i)
+
+  abbrev sender : ℕ
+  sender = getD claims (1024 + aAt nodes i) 0
+
+  sent-by : entryStores ≡ true → hasKind nodes isAsg i ≡ false → (rest : List ℕ) × (sent ≡ sender ∷ rest)
+  sent-by h a =
+      let kind = sym (in-number (getD nodes (5 * i) 0)) ∙ in-kind h a in
+      let claimed = sym (in-stores (eqb-true (getD nodes (5 * i) 0) 4 kind)) ∙ h in
+      pick sent refl (x .paired .outputs (aAt nodes i) (store-channel h a)) claimed
+    where
+      pick : (xs : List ℕ) → sent ≡ xs → rankIn claims 256 (aAt nodes i) ≡ rankOf xs
+          → not (eqb (rankIn claims 256 (aAt nodes i)) 0) ≡ true → (rest : List ℕ) × (sent ≡ sender ∷ rest)
+      pick [] e rank claimed = absurd (true≢false (sym claimed ∙ rw rank))
+      pick (y ∷ ys) e rank claimed =
+          (ys, e ∙ ap (λ (n : ℕ). n ∷ ys) (sym (rank-node claims 256 (aAt nodes i) rank)))
+
+  pub in-source : entryStores ≡ true → hasKind nodes isAsg i ≡ false → entrySource ≡ some (bAt nodes sender)
+  in-source h a = rw a (ap (sentBy nodes) (sent-by h a .1))
+
+  pub some-source : entryStores ≡ true → (e : ℕ) × (entrySource ≡ some e)
+  some-source h =
+      elim (true-or-false (hasKind nodes isAsg i)) [
+        | inl k ↦ (bAt nodes i, rw k)
+        | inr k ↦ (bAt nodes sender, in-source h k)
+      ]
+
+  -- it is a marked OUT
+  sender-out : {y : ℕ} {ys : List ℕ} → sent ≡ y ∷ ys → (marked (x .cycle .marks) y ≡ true) × (hasKind nodes isOut y ≡ true)
+  sender-out {y} {ys} e =
+      let h = first-active (x .cycle .marks) (λ j. hasKind nodes isOut j && eqb (aAt nodes j) (aAt nodes i)) y ys e in
+      (h .0, and-left _ _ (h .1))
+
+  pub sender-node : entryStores ≡ true → hasKind nodes isAsg i ≡ false → sender < nodeCount nodes
+  sender-node h a = marked-node (x .cycle) sender (sender-out (sent-by h a .1) .0)
+
+  pub source-inside : (e : ℕ) → entryStores ≡ true → entrySource ≡ some e → e < exprCount (x .cycle .exprs)
+  source-inside e h q = pick (hasKind nodes isAsg i) refl q
+    where
+      sends : (xs : List ℕ) → sent ≡ xs → sentBy nodes xs ≡ some e → e < exprCount (x .cycle .exprs)
+      sends [] s q = absurd (let z : _≡_ {A = ℕ} 0 1 = cc in omega arith)
+      sends (y ∷ ys) s q =
+          let same : bAt nodes y ≡ e = cc in
+          rw (sym same) (out-expression (x .cycle) y (sender-out s .0) (sender-out s .1))
+
+      pick : (b : Bool) → hasKind nodes isAsg i ≡ b → cond b (some (bAt nodes i)) (sentBy nodes sent) ≡ some e
+          → e < exprCount (x .cycle .exprs)
+      pick true k q =
+          let same : bAt nodes i ≡ e = cc in
+          rw (sym same) (asg-expression (x .cycle) i (x .isMarked) k)
+      pick false k q = sends sent refl q
+
+  -- ---- its store
 
   module _ (table values : List ℕ) where
-    pub stored : entryStores ≡ true → store (program (x .cycle)) (x .cycle .marks) table values i
-        ≡ set values (targetAt nodes i) (getD table (source (program (x .cycle)) (x .cycle .marks) i) 0)
+    pub stored : (e : ℕ) → entryStores ≡ true → entrySource ≡ some e
+        → store (program (x .cycle)) (x .cycle .marks) table values i ≡ set values (targetAt nodes i) (getD table e 0)
     unfolding store
-    stored s = rw s
+    stored e s q = rw s (ap (storeValue table values (targetAt nodes i)) q)
 
     pub not-stored : entryStores ≡ false → store (program (x .cycle)) (x .cycle .marks) table values i ≡ values
     unfolding store
     not-stored s = rw s
-
--- ---- all entries
-
-module _ {nodes entries outs : List ℕ} (x : RankedCycle nodes entries outs) where
-  abbrev pub entry-of : (k : ℕ) → k < length entries → EntryOf nodes outs (getD entries k 0)
-  entry-of k l = record {
-    entries = entries;
-    cycle = x .cycle;
-    ranked = x .ranked;
-    isMarked = entry-marked (x .cycle) k l;
-  }
-
-  abbrev storing : ℕ → Bool
-  storing = stores (program (x .cycle)) (x .cycle .marks)
-
-  -- at most one marked node stores to the variable
-  abbrev single : ℕ → Bool
-  single v = leb (length (filter (wants storing (targetAt nodes) v) (active (x .cycle .marks)))) 1
-
-  single-storing : (v : ℕ) → single v ≡ leb (length (filter (wants storing (targetAt nodes) v) entries)) 1
-  single-storing v = single-entries (x .cycle) (wants storing (targetAt nodes) v)
-
-  -- the first k entries have claimed the variables that they store to
-  abbrev pub ClaimedTo : ℕ → List ℕ → Type 0
-  ClaimedTo k writers = Claims storing (targetAt nodes) (take k entries) writers
-
-  pub all-apart : {k : ℕ} {writers : List ℕ} → ClaimedTo k writers → length entries ≤ k
-      → targetsApart (program (x .cycle)) (x .cycle .marks) ≡ true
-  unfolding targetsApart
-  all-apart {k} {writers} h l =
-      let claims = claims-all storing (targetAt nodes) entries writers k l h in
-      all-below single (x .cycle .variables) (λ v i. single-storing v ∙ le-leb _ 1 (claims v .single))
-
-  module _ {k : ℕ} {writers : List ℕ} (h : ClaimedTo k writers) (w : length writers ≡ 256) (l : k < length entries)
-    where
-      inside : storing (getD entries k 0) ≡ true → targetAt nodes (getD entries k 0) < length writers
-      inside s = rw w (variable-fits (x .cycle) (target-inside (entry-of k l) s))
-
-      pub claimed-more : isFree storing (targetAt nodes) writers (getD entries k 0) ≡ true
-          → ClaimedTo (k + 1) (claimed storing (targetAt nodes) writers (getD entries k 0))
-      claimed-more = claims-more storing (targetAt nodes) entries writers k l h inside
-
-      pub not-apart : isFree storing (targetAt nodes) writers (getD entries k 0) ≡ false
-          → targetsApart (program (x .cycle)) (x .cycle .marks) ≡ false
-      unfolding targetsApart
-      not-apart taken =
-          let (s, two) = claims-refused storing (targetAt nodes) entries writers k l h inside taken in
-          let v = targetAt nodes (getD entries k 0) in
-          let v-fits = target-inside (entry-of k l) s in
-          refuted _ (λ a.
-          let most = sym (single-storing v) ∙ every-below single (x .cycle .variables) a v v-fits in
-          let least = leb-true (length (filter (wants storing (targetAt nodes) v) entries)) 1 most in
-          omega arith)
-
--- ---- a fold over the entries from k on
-
-pub fold-next : {A : Type 0} (step : A → ℕ → A) (a : A) (entries : List ℕ) (k : ℕ) → k < length entries
-    → foldl step a (drop k entries) ≡ foldl step (step a (getD entries k 0)) (drop (k + 1) entries)
-fold-next step a entries k l = rw (add-one k, drop-cons entries k 0 l)

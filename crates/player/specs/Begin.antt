@@ -1,12 +1,11 @@
--- What begin promises, and what entering node 0 in code promises to it.
+-- What begin promises.
 use mathlib.Core.Path.{_≡_}
-use mathlib.Core.Bool.{Bool, true, cond}
+use mathlib.Core.Bool.{true}
 use mathlib.Core.List.{List}
 use Prim.Native.Nat.{ℕ}
 use Rattle.semantics.specs.Program.{Program}
 use Rattle.semantics.specs.Check.{isFaultItem}
 use Rattle.semantics.specs.State.{State}
-use Rattle.semantics.specs.Walk.{Walk}
 use Rattle.semantics.specs.Calls.{beginAnswer}
 
 -- The state that three lists hold.
@@ -20,10 +19,3 @@ pub record BeginAnswer (P : Program) (s : State) (number item : ℕ) (marks coun
   pub faultItem : isFaultItem P number item ≡ true
   pub rightMarks : marks ≡ beginAnswer P s .state .marks
   pub rightCounts : counts ≡ beginAnswer P s .state .counts
-
--- Marks and counts are those of the walk w, or stay where it met a zero-time loop.
-pub record WrittenUnlessLooped (w : Walk) (marks₀ counts₀ : List ℕ) (looped : Bool) (marks counts : List ℕ) :
-    Type 0 where
-  pub rightLooped : looped ≡ w .looped
-  pub rightMarks : marks ≡ cond looped marks₀ (w .marks)
-  pub rightCounts : counts ≡ cond looped counts₀ (w .counts)

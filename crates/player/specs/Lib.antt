@@ -1,10 +1,12 @@
 pub mod Word
+pub mod Begin
+pub mod Run
+pub mod Work
 pub mod Walks
 pub mod WellFormed
+pub mod Root
 pub mod Entries
 pub mod Claims
-pub mod Cycles
-pub mod Begin
-pub mod Running
-pub mod Run
-pub mod CycleSteps
+pub mod Channels
+pub mod Stores
+pub mod Cycle

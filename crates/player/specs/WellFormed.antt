@@ -3,12 +3,19 @@
 use mathlib.Core.Path.{_≡_}
 use mathlib.Core.Bool.{Bool, cond, _&&_}
 use mathlib.Core.List.{List}
-use Prim.Native.Nat.{ℕ, _+_, _<_}
+use Prim.Native.Nat.{ℕ, _+_, _≤_, _<_}
 use lib.Dec.{ltb}
 use lib.ListN.{length, getD, set}
 use Rattle.semantics.specs.Program.{Program, nodeCount, parentAt}
 use Rattle.semantics.specs.State.{State, wellFormed}
-use Rattle.semantics.proofs.LiveChildren.{liveFrom}
+use Rattle.semantics.specs.Facts.{NodesOk, liveFrom}
+
+-- Every node of the program is ok, and marks and counts have one element for each node.
+pub record ListsFit (nodes marks counts : List ℕ) : Type 0 where
+  pub nodesOk : NodesOk nodes
+  pub nodesFit : nodeCount nodes ≤ 1024
+  pub marksFit : length marks ≡ nodeCount nodes
+  pub countsFit : length counts ≡ nodeCount nodes
 
 -- The answer for every program and state that have these lists.
 pub record WellFormedAnswer (nodes marks counts : List ℕ) (r : Bool) : Type 0 where

@@ -1,9 +1,9 @@
 // The calls of the player for C: a slice passes as a pointer and its length in elements.
 ghost use mathlib.Core.Path.{_≡_};
 ghost use Rattle.program.specs.Answer.{programOf, CheckAnswer};
+ghost use Rattle.player.specs.Word.{numberIn, itemIn, itemOfRunIn, workedIn};
 ghost use Rattle.player.specs.Begin.{stateOf, BeginAnswer};
 ghost use Rattle.player.specs.Run.{RunAnswer};
-ghost use Rattle.player.specs.Word.{numberIn, itemIn, itemOfRunIn, workedIn};
 
 fn word_of(number: u16, item: u16) -> u32
     ensures { λ r. ⌜ (numberIn r ≡ number) × (itemIn r ≡ item) ⌝ }
@@ -34,8 +34,8 @@ pub extern "C" fn player_begin(
         (stateOf (now (values .entry)) (now (marks .entry)) (now (counts .entry)))
         (numberIn r) (itemIn r) (now (marks .exit)) (now (counts .exit)) ⌝ }
 {
-    let begun = crate::begin(exprs, nodes, vars, chans, values, marks, counts);
-    word_of(begun.number, begun.item)
+    let answer = crate::begin(exprs, nodes, vars, chans, values, marks, counts);
+    word_of(answer.number, answer.item)
 }
 
 fn word_of_run(number: u16, item: u16, worked: u16) -> u64

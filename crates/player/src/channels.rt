@@ -1,67 +1,92 @@
-// Channels: question 8, "Has no channel two marked IN or two marked OUT?", and which leaves wait. Two tables hold, for
-// each channel, the rank of the IN and of the OUT that is marked on it.
-use crate::slots;
+// Channels: question 8, whether a channel has two marked IN or two marked OUT, and which leaves wait.
+use crate::claims;
+use crate::claims::CLAIMS;
+use crate::claims::INPUTS;
+use crate::claims::OUTPUTS;
+use crate::records;
 use program::ChanId;
-use program::words;
+use program::kinds::IN;
+use program::kinds::OUT;
 ghost use mathlib.Core.Path.{_≡_};
-ghost use mathlib.Core.Bool.{true};
-ghost use mathlib.Core.List.{List};
-ghost use Prim.Native.Nat.{ℕ, _<_};
-ghost use lib.ListN.{length, getD, replicate};
-ghost use Rattle.semantics.specs.Program.{aAt};
-ghost use Rattle.semantics.specs.State.{marked};
+ghost use mathlib.Core.Bool.{true, not};
+ghost use Prim.Native.Nat.{_+_, _<_};
+ghost use lib.Dec.{eqb};
+ghost use lib.ListN.{length, getD};
+ghost use Rattle.semantics.specs.Program.{nodeCount, aAt};
 ghost use Rattle.semantics.specs.Completion.{isIn, isOut, waits};
-ghost use Rattle.player.specs.Claims.{Claim};
-ghost use Rattle.player.specs.Cycles.{CycleOf, Paired, Pairing, program, hasKind, bothFree, claimedBy};
+ghost use Rattle.player.specs.Claims.{Claim, Fresh, rankIn};
+ghost use Rattle.player.specs.Channels.{CycleOf, Pairing, PairedEntry, EntryPairing, program, hasKind};
 
 // The channel of an IN or OUT.
 pub fn channel_of(nodes: &[u16], i: u16) -> ChanId
+    requires { ⌜ i < nodeCount (now nodes) ⌝ }
     ensures { λ r. ⌜ r .0 ≡ aAt (now (nodes .entry)) i ⌝ }
 {
-    ChanId(words::a_word(nodes, i))
+    ChanId(records::a_of(nodes, i))
 }
 
-// The rank that a table has at a channel.
-pub fn rank_on(table: &[u16], channel: ChanId) -> u16
-    ensures { λ r. ⌜ r ≡ getD (now (table .entry)) (channel .0) 0 ⌝ }
+// Whether an IN, or an OUT, is marked on the channel.
+pub fn has_in(claims: &[u16; CLAIMS], channel: ChanId) -> bool
+    requires { ⌜ channel .0 < 256 ⌝ }
+    ensures { λ r. ⌜ r ≡ not (eqb (rankIn (now (claims .entry)) 0 (channel .0)) 0) ⌝ }
 {
-    words::word_at(table, channel.0 as usize)
+    claims::is_claimed(claims, INPUTS, channel.0)
 }
 
-// Whether the channel was free; then node i claims it.
-fn claim(table: &mut [u16], channel: ChanId, i: u16) -> bool
-    requires { ⌜ (channel .0 < length (now table)) × (i < 65535) ⌝ }
-    ensures { λ r. ⌜ Claim (now (table .entry)) (now (table .exit)) (channel .0) i r ⌝ }
+pub fn has_out(claims: &[u16; CLAIMS], channel: ChanId) -> bool
+    requires { ⌜ channel .0 < 256 ⌝ }
+    ensures { λ r. ⌜ r ≡ not (eqb (rankIn (now (claims .entry)) 256 (channel .0)) 0) ⌝ }
 {
-    slots::claim(table, channel.0, i)
+    claims::is_claimed(claims, OUTPUTS, channel.0)
+}
+
+// The OUT that is marked on a channel that has one.
+pub fn sender(claims: &[u16; CLAIMS], channel: ChanId) -> u16
+    requires { ⌜ channel .0 < 256 ⌝ }
+    ensures { λ r. ⌜ r ≡ getD (now (claims .entry)) (1024 + channel .0) 0 ⌝ }
+{
+    claims::claimant(claims, OUTPUTS, channel.0)
+}
+
+// Whether the channel was free for input, or for output; then node i claims it.
+fn claim_in(claims: &mut [u16; CLAIMS], channel: ChanId, i: u16) -> bool
+    requires { ⌜ (channel .0 < 256) × (length (now claims) ≡ 2049) ⌝ }
+    ensures { λ r. ⌜ Claim (now (claims .entry)) (now (claims .exit)) 0 (channel .0) i r ⌝ }
+{
+    claims::claim(claims, INPUTS, channel.0, i)
+}
+
+fn claim_out(claims: &mut [u16; CLAIMS], channel: ChanId, i: u16) -> bool
+    requires { ⌜ (channel .0 < 256) × (length (now claims) ≡ 2049) ⌝ }
+    ensures { λ r. ⌜ Claim (now (claims .entry)) (now (claims .exit)) 256 (channel .0) i r ⌝ }
+{
+    claims::claim(claims, OUTPUTS, channel.0, i)
 }
 
 // Node i claims its channel, for input if it is an IN and for output if it is an OUT: whether it was free.
-fn pair_one(nodes: &[u16], i: u16, ins: &mut [u16], outs: &mut [u16]) -> bool
-    requires { ⌜ (hasKind (now nodes) isIn i ≡ true → aAt (now nodes) i < length (now ins)) ⌝ }
-    requires { ⌜ (hasKind (now nodes) isOut i ≡ true → aAt (now nodes) i < length (now outs)) ⌝ }
-    requires { ⌜ i < 65535 ⌝ }
-    ensures { λ r. ⌜ r ≡ bothFree (now (nodes .entry)) (now (ins .entry)) (now (outs .entry)) i ⌝ }
-    ensures { λ r. ⌜ (r ≡ true → now (ins .exit) ≡ claimedBy (now (nodes .entry)) isIn (now (ins .entry)) i) ⌝ }
-    ensures { λ r. ⌜ (r ≡ true → now (outs .exit) ≡ claimedBy (now (nodes .entry)) isOut (now (outs .entry)) i) ⌝ }
+fn pair_one(nodes: &[u16], i: u16, claims: &mut [u16; CLAIMS]) -> bool
+    requires { ⌜ (i < nodeCount (now nodes)) × (length (now claims) ≡ 2049) ⌝ }
+    requires { ⌜ (hasKind (now nodes) isIn i ≡ true → aAt (now nodes) i < 256) ⌝ }
+    requires { ⌜ (hasKind (now nodes) isOut i ≡ true → aAt (now nodes) i < 256) ⌝ }
+    ensures { λ r. ⌜ EntryPairing (now (nodes .entry)) i r (now (claims .entry)) (now (claims .exit)) ⌝ }
 {
-    match words::kind_word(nodes, i) {
-        4 => claim(ins, channel_of(nodes, i), i),
-        5 => claim(outs, channel_of(nodes, i), i),
+    match records::kind_of(nodes, i) {
+        IN => claim_in(claims, channel_of(nodes, i), i),
+        OUT => claim_out(claims, channel_of(nodes, i), i),
         _ => true,
     }
 }
 
-// Question 8, from tables of zeros.
-pub fn pair_channels(nodes: &[u16], entries: &[u16], ins: &mut [u16], outs: &mut [u16]) -> bool
+// Question 8.
+pub fn pair_channels(nodes: &[u16], entries: &[u16], claims: &mut [u16; CLAIMS]) -> bool
     requires { ⌜ CycleOf (now nodes) (now entries) ⌝ }
-    requires { ⌜ (now ins ≡ replicate 256 0) × (now outs ≡ replicate 256 0) ⌝ }
+    requires { ⌜ Fresh (now claims) ⌝ }
     ensures { λ r. ⌜ ((x : CycleOf (now (nodes .entry)) (now (entries .entry)))
-        → Pairing x r (now (ins .exit)) (now (outs .exit))) ⌝ }
+        → Pairing x r (now (claims .entry)) (now (claims .exit))) ⌝ }
 {
-    let mut k = 0;
+    let mut k: usize = 0;
     while k < entries.len() {
-        if !pair_one(nodes, entries[k], ins, outs) {
+        if !pair_one(nodes, entries[k], claims) {
             return false;
         }
         k += 1;
@@ -70,14 +95,14 @@ pub fn pair_channels(nodes: &[u16], entries: &[u16], ins: &mut [u16], outs: &mut
 }
 
 // Whether node i, a marked one, waits: an IN with no OUT marked on its channel, or an OUT with no IN.
-pub fn waits(nodes: &[u16], ins: &[u16], outs: &[u16], i: u16) -> bool
-    ensures { λ r. ⌜ ((entries : List ℕ) (x : CycleOf (now (nodes .entry)) entries)
-        → Paired x (now (ins .entry)) (now (outs .entry)) → marked (x .marks) i ≡ true
-        → r ≡ waits (program x) (x .marks) i) ⌝ }
+pub fn waits(nodes: &[u16], claims: &[u16; CLAIMS], i: u16) -> bool
+    requires { ⌜ PairedEntry (now nodes) (now claims) i ⌝ }
+    ensures { λ r. ⌜ ((x : PairedEntry (now (nodes .entry)) (now (claims .entry)) i)
+        → r ≡ waits (program (x .cycle)) (x .cycle .marks) i) ⌝ }
 {
-    match words::kind_word(nodes, i) {
-        4 => rank_on(outs, channel_of(nodes, i)) == 0,
-        5 => rank_on(ins, channel_of(nodes, i)) == 0,
+    match records::kind_of(nodes, i) {
+        IN => !has_out(claims, channel_of(nodes, i)),
+        OUT => !has_in(claims, channel_of(nodes, i)),
         _ => false,
     }
 }

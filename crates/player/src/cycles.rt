@@ -1,11 +1,16 @@
-// "A run works cycles until the asked number is worked, the state is ended, or a cycle is refused."
+// The cycles of a run, until as many are worked as asked, no mark stands, or a cycle is refused.
 use crate::Ran;
+use crate::claims::CLAIMS;
+use crate::claims::STAMP;
 use crate::cycle;
-use crate::entries;
+use crate::marks;
+use crate::start;
+use crate::work::WORK;
 ghost use mathlib.Core.Path.{_≡_};
+ghost use Prim.Native.Nat.{ℕ};
 ghost use Rattle.program.specs.Answer.{programOf};
 ghost use Rattle.player.specs.Begin.{stateOf};
-ghost use Rattle.player.specs.Running.{Runnable};
+ghost use Rattle.player.specs.Cycle.{Runnable};
 ghost use Rattle.player.specs.Run.{RunAnswer};
 
 // A run that stops when so many cycles are worked. No item comes with 0, nor with the number of a refused cycle.
@@ -19,51 +24,48 @@ fn stopped(number: u16, worked: u16) -> Ran
     }
 }
 
-// Works the cycles of a run from a state that questions 1 to 6 let by. Each cycle is handed the part of the schedule
-// that starts at the entries already read, and the table of the expressions' values in the values as they are.
+// Works the cycles of a run from a state that questions 1 to 6 let by. Each cycle is handed the part of the book that
+// starts at the entries already read.
 pub fn work_cycles(
     exprs: &[u16],
     nodes: &[u16],
-    vars: u16,
-    chans: u16,
     values: &mut [u16],
     marks: &mut [u8],
     counts: &mut [u16],
-    schedule: &[u16],
+    book: &[u16],
     cycles: u16,
 ) -> Ran
-    requires { ⌜ Runnable (programOf (now exprs) (now nodes) vars chans)
-        (stateOf (now values) (now marks) (now counts)) ⌝ }
-    ensures { λ r. ⌜ RunAnswer (programOf (now (exprs .entry)) (now (nodes .entry)) vars chans) cycles
-        (stateOf (now (values .entry)) (now (marks .entry)) (now (counts .entry))) (now (schedule .entry))
-        (r .number) (r .item) (r .worked) (stateOf (now (values .exit)) (now (marks .exit)) (now (counts .exit))) ⌝ }
+    requires { ⌜ ((vars : ℕ) × (chans : ℕ) × Runnable (programOf (now exprs) (now nodes) vars chans)
+        (stateOf (now values) (now marks) (now counts))) ⌝ }
+    ensures { λ r. ⌜ ((vars chans : ℕ) → Runnable (programOf (now (exprs .entry)) (now (nodes .entry)) vars chans)
+        (stateOf (now (values .entry)) (now (marks .entry)) (now (counts .entry)))
+        → RunAnswer (programOf (now (exprs .entry)) (now (nodes .entry)) vars chans) cycles
+        (stateOf (now (values .entry)) (now (marks .entry)) (now (counts .entry))) (now (book .entry))
+        (r .number) (r .item) (r .worked) (stateOf (now (values .exit)) (now (marks .exit)) (now (counts .exit)))) ⌝ }
 {
-    let mut table = [0u16; 1024];
-    let mut new_values = [0u16; 256];
-    let mut new_marks = [0u8; 1024];
-    let mut new_counts = [0u16; 1024];
-    program::fill_values(exprs, values, &mut table);
+    if cycles == 0 {
+        return stopped(0, 0);
+    }
+    let mut work = [0u16; WORK];
+    start::fill(nodes, values, marks, &mut work);
+    let mut claims = [0u16; CLAIMS];
     let mut worked: u16 = 0;
     let mut read: usize = 0;
     while worked < cycles {
-        let m = entries::count_marks(marks);
+        let m = marks::tally(&work);
         if m == 0 {
             return stopped(0, worked);
         }
+        claims[STAMP] = worked + 1;
         let number = cycle::work_cycle(
             exprs,
             nodes,
-            vars,
-            chans,
             values,
             marks,
             counts,
-            &schedule[read..],
-            m,
-            &mut table,
-            &mut new_values,
-            &mut new_marks,
-            &mut new_counts,
+            &book[read..],
+            &mut work,
+            &mut claims,
         );
         if number != 0 {
             return stopped(number, worked);

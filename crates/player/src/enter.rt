@@ -1,174 +1,247 @@
-// Entering a node: "Enter a node; the outcome is finished or stays."
+// Entering a node. The outcome is one number; whether a zero-time loop was met is noted in `work`, and the walk goes on as
+// if the WHL were finished.
+use crate::expressions;
+use crate::marks;
+use crate::records;
 use crate::threads;
-use program::words;
+use crate::work::LOOPED;
+use crate::work::WORK;
+use program::kinds::ASG;
+use program::kinds::DLY;
+use program::kinds::IF;
+use program::kinds::OUT;
+use program::kinds::PAR;
+use program::kinds::SEQ;
+use program::kinds::WHL;
 ghost use mathlib.Core.Path.{_≡_};
-ghost use mathlib.Core.Bool.{_||_};
-ghost use Prim.Native.Nat.{suc, _≤_, _<_};
-ghost use Rattle.semantics.specs.Program.{nodeCount, endAt, aAt};
-ghost use Rattle.semantics.specs.Tree.{statements};
-ghost use Rattle.semantics.specs.Walk.{enter, enterInTurn, enterEach};
-ghost use Rattle.semantics.proofs.TreeOfList.{statementAt};
-ghost use Rattle.player.specs.Walks.{walk, entered, kindWord, tableHolds, Walkable};
+ghost use mathlib.Core.Bool.{Bool, true, false, cond, _&&_};
+ghost use mathlib.Core.Logic.{_≢_};
+ghost use mathlib.Core.List.{List};
+ghost use Prim.Native.Nat.{ℕ, suc, _≤_, _<_};
+ghost use lib.Dec.{eqb};
+ghost use lib.ListN.{length, set};
+ghost use Rattle.semantics.specs.Program.{nodeCount, isLeaf, kindOf, kindAt, aAt, endAt};
+ghost use Rattle.semantics.specs.Tree.{childrenFrom};
+ghost use Rattle.semantics.specs.Walk.{enter, enterEach};
+ghost use Rattle.semantics.specs.Facts.{statementAt};
+ghost use Rattle.player.specs.Work.{Worked, KeptFrom};
+ghost use Rattle.player.specs.Walks.{walkIn, entered, passed, holdsIn, kindWord, Walking, Enters, Walks, ButLast, Chosen};
 
-// Whether the condition of node i is true.
-pub fn condition(nodes: &[u16], table: &[u16], i: u16) -> bool
-    ensures { λ r. ⌜ r ≡ tableHolds (now (table .entry)) (aAt (now (nodes .entry)) i) ⌝ }
+pub const FINISHED: u16 = 0;
+
+pub const STAYS: u16 = 1;
+
+// Whether the condition of node i is true in the values of the moment.
+pub fn holds(nodes: &[u16], exprs: &[u16], work: &mut [u16; WORK], i: u16) -> bool
+    requires { ⌜ ((values : List ℕ) × (marks : List ℕ) × (counts : List ℕ) × Walking (now exprs) (now nodes) values marks counts (now work)) ⌝ }
+    requires { ⌜ (i < nodeCount (now nodes)) × (6 ≤ kindWord (now nodes) i) × (kindWord (now nodes) i ≤ 7) ⌝ }
+    ensures { λ r. ⌜ ((values marks counts : List ℕ)
+        → Walking (now (exprs .entry)) (now (nodes .entry)) values marks counts (now (work .entry))
+        → (r ≡ holdsIn (now (exprs .entry)) values (aAt (now (nodes .entry)) i))
+        × Walking (now (exprs .entry)) (now (nodes .entry)) values marks counts (now (work .exit))) ⌝ }
+    ensures { λ r. ⌜ KeptFrom 2304 (now (work .entry)) (now (work .exit)) ⌝ }
 {
-    words::word_at(table, words::a_word(nodes, i) as usize) != 0
+    expressions::value(exprs, work, records::a_of(nodes, i)) != 0
 }
 
-// What entering gave: whether it finished, and whether a zero-time loop was met so far.
-pub struct Entry {
-    pub finished: bool,
-    pub looped: bool,
-}
-
-// "If that finishes, the walk is a zero-time loop": the body of a WHL was entered.
-pub fn loop_if_finished(body: Entry) -> Entry
-    ensures { λ r. ⌜ (r .finished ≡ body .finished) × (r .looped ≡ body .finished || body .looped) ⌝ }
+fn is_leaf(kind: u16) -> bool
+    ensures { λ r. ⌜ (r ≡ true → isLeaf (kindOf kind) ≡ true) ⌝ }
 {
-    Entry {
-        finished: body.finished,
-        looped: body.finished | body.looped,
+    match kind {
+        ASG..=OUT | DLY => true,
+        _ => false,
     }
 }
 
-// Enter node i: marks and counts are written, and the flag says whether a zero-time loop was met so far. An accepted
-// program has no other kind.
+// Where a WHL was passed, finishing is a zero-time loop. Gives the outcome as it is.
+pub fn pass(work: &mut [u16; WORK], looping: bool, outcome: u16) -> u16
+    ensures { λ r. ⌜ r ≡ outcome ⌝ }
+    ensures { λ r. ⌜ now (work .exit)
+        ≡ cond (looping && eqb outcome 0) (set (now (work .entry)) 2306 1) (now (work .entry)) ⌝ }
+{
+    if looping & (outcome == FINISHED) {
+        work[LOOPED] = 1;
+    }
+    outcome
+}
+
+// The child that node i, an IF or a WHL, enters, or 0 where it enters none: no node has node 0 as its child.
+fn chosen(nodes: &[u16], exprs: &[u16], work: &mut [u16; WORK], i: u16) -> u16
+    requires { ⌜ ((values : List ℕ) × (marks : List ℕ) × (counts : List ℕ) × Walking (now exprs) (now nodes) values marks counts (now work)) ⌝ }
+    requires { ⌜ (i < nodeCount (now nodes)) × (6 ≤ kindWord (now nodes) i) × (kindWord (now nodes) i ≤ 7) ⌝ }
+    ensures { λ r. ⌜ ((values marks counts : List ℕ)
+        → Walking (now (exprs .entry)) (now (nodes .entry)) values marks counts (now (work .entry))
+        → Chosen (now (exprs .entry)) (now (nodes .entry)) values (now (work .entry)) i marks counts r
+        (now (work .exit))) ⌝ }
+{
+    if holds(nodes, exprs, work, i) {
+        return i + 1;
+    }
+    if records::kind_of(nodes, i) == IF {
+        let second = records::end_of(nodes, i + 1);
+        if second < records::end_of(nodes, i) {
+            return second;
+        }
+    }
+    0
+}
+
+// Enter node i. What an IF, a WHL or a SEQ at its last child goes on with is entered in the next turn of the loop;
+// `looping` says whether a WHL was passed on the way. An accepted program has no other kind.
 pub fn enter_node(
     nodes: &[u16],
-    table: &[u16],
-    i: u16,
+    exprs: &[u16],
+    work: &mut [u16; WORK],
     marks: &mut [u8],
     counts: &mut [u16],
-    looped: bool,
-) -> Entry
-    requires { ⌜ Walkable (now nodes) (now marks) (now counts) ⌝ }
+    i: u16,
+) -> u16
+    requires { ⌜ ((values : List ℕ)
+        × Walking (now exprs) (now nodes) values (now marks) (now counts) (now work)) ⌝ }
     requires { ⌜ i < nodeCount (now nodes) ⌝ }
-    ensures { λ r. ⌜ entered (r .finished) (walk (now (marks .exit)) (now (counts .exit)) (r .looped))
-        ≡ enter (tableHolds (now (table .entry))) (statementAt (now (nodes .entry)) i)
-        (walk (now (marks .entry)) (now (counts .entry)) looped) ⌝ }
+    ensures { λ r. ⌜ ((values : List ℕ)
+        → Walking (now (exprs .entry)) (now (nodes .entry)) values (now (marks .entry)) (now (counts .entry))
+        (now (work .entry))
+        → Enters (now (exprs .entry)) (now (nodes .entry)) values (now (work .entry))
+        (enter (holdsIn (now (exprs .entry)) values) (statementAt (now (nodes .entry)) i)
+        (walkIn (now (marks .entry)) (now (counts .entry)) (now (work .entry))))
+        r (now (marks .exit)) (now (counts .exit)) (now (work .exit))) ⌝ }
 {
-    match words::kind_word(nodes, i) {
-        1 => enter_in_turn(nodes, table, i, i + 1, marks, counts, looped),
-        2 => {
-            counts[i as usize] = threads::count_children(nodes, i);
-            let met = enter_each(nodes, table, i, marks, counts, looped);
-            let count = counts[i as usize];
-            Entry {
-                finished: count == 0,
-                looped: met,
+    let mut node = i;
+    let mut looping = false;
+    loop {
+        let kind = records::kind_of(nodes, node);
+        match kind {
+            ASG..=OUT | DLY => {
+                marks::mark(work, marks, node);
+                return STAYS;
+            }
+            SEQ => {
+                let turn = enter_but_last(nodes, exprs, work, marks, counts, node);
+                if turn.outcome != FINISHED {
+                    return turn.outcome;
+                }
+                node = turn.last;
+            }
+            PAR => {
+                let outcome = enter_each(nodes, exprs, work, marks, counts, node);
+                return pass(work, looping, outcome);
+            }
+            IF..=WHL => {
+                let child = chosen(nodes, exprs, work, node);
+                if child == 0 {
+                    return pass(work, looping, FINISHED);
+                }
+                looping = looping | (kind == WHL);
+                node = child;
+            }
+            _ => {
+                return FINISHED;
             }
         }
-        6..=7 => enter_on_condition(nodes, table, i, marks, counts, looped),
-        3..=5 | 8 => {
-            marks[i as usize] = 1;
-            Entry {
-                finished: false,
-                looped,
-            }
-        }
-        _ => Entry {
-            finished: true,
-            looped,
-        },
     }
 }
 
-// Enter node i, an IF or a WHL: "IF enters the first child when true, the second when false; a missing second is
-// finished. WHL false is finished; WHL true enters its child."
-fn enter_on_condition(
+// Enter node i; a leaf at once, without a call.
+pub fn enter_child(
     nodes: &[u16],
-    table: &[u16],
+    exprs: &[u16],
+    work: &mut [u16; WORK],
+    marks: &mut [u8],
+    counts: &mut [u16],
     i: u16,
-    marks: &mut [u8],
-    counts: &mut [u16],
-    looped: bool,
-) -> Entry
-    requires { ⌜ Walkable (now nodes) (now marks) (now counts) ⌝ }
-    requires { ⌜ (i < nodeCount (now nodes)) × (6 ≤ kindWord (now nodes) i) × (kindWord (now nodes) i ≤ 7) ⌝ }
-    ensures { λ r. ⌜ entered (r .finished) (walk (now (marks .exit)) (now (counts .exit)) (r .looped))
-        ≡ enter (tableHolds (now (table .entry))) (statementAt (now (nodes .entry)) i)
-        (walk (now (marks .entry)) (now (counts .entry)) looped) ⌝ }
+) -> u16
+    requires { ⌜ ((values : List ℕ)
+        × Walking (now exprs) (now nodes) values (now marks) (now counts) (now work)) ⌝ }
+    requires { ⌜ i < nodeCount (now nodes) ⌝ }
+    ensures { λ r. ⌜ ((values : List ℕ)
+        → Walking (now (exprs .entry)) (now (nodes .entry)) values (now (marks .entry)) (now (counts .entry))
+        (now (work .entry))
+        → Enters (now (exprs .entry)) (now (nodes .entry)) values (now (work .entry))
+        (enter (holdsIn (now (exprs .entry)) values) (statementAt (now (nodes .entry)) i)
+        (walkIn (now (marks .entry)) (now (counts .entry)) (now (work .entry))))
+        r (now (marks .exit)) (now (counts .exit)) (now (work .exit))) ⌝ }
 {
-    let kind = words::kind_word(nodes, i);
-    if condition(nodes, table, i) {
-        let child = enter_node(nodes, table, i + 1, marks, counts, looped);
-        if kind == 6 {
-            return child;
-        }
-        return loop_if_finished(child);
+    if is_leaf(records::kind_of(nodes, i)) {
+        marks::mark(work, marks, i);
+        return STAYS;
     }
-    if kind == 6 {
-        let second = words::end_word(nodes, i + 1);
-        if second < words::end_word(nodes, i) {
-            return enter_node(nodes, table, second, marks, counts, looped);
-        }
-    }
-    Entry {
-        finished: true,
-        looped,
-    }
+    enter_node(nodes, exprs, work, marks, counts, i)
 }
 
-// Enter the children of node h from node j on, in turn until one stays.
-pub fn enter_in_turn(
+// What entering the children of a SEQ but for the last gave, and the last.
+struct Turn {
+    outcome: u16,
+    last: u16,
+}
+
+// Enter the children of SEQ h in turn until one stays, but for the last.
+fn enter_but_last(
     nodes: &[u16],
-    table: &[u16],
-    h: u16,
-    j: u16,
+    exprs: &[u16],
+    work: &mut [u16; WORK],
     marks: &mut [u8],
     counts: &mut [u16],
-    looped: bool,
-) -> Entry
-    requires { ⌜ Walkable (now nodes) (now marks) (now counts) ⌝ }
-    requires { ⌜ (h < nodeCount (now nodes)) × (h < j) × (j ≤ endAt (now nodes) h) ⌝ }
-    ensures { λ r. ⌜ entered (r .finished) (walk (now (marks .exit)) (now (counts .exit)) (r .looped))
-        ≡ enterInTurn (tableHolds (now (table .entry)))
-        (statements (now (nodes .entry)) j (endAt (now (nodes .entry)) h))
-        (walk (now (marks .entry)) (now (counts .entry)) looped) ⌝ }
+    h: u16,
+) -> Turn
+    requires { ⌜ ((values : List ℕ)
+        × Walking (now exprs) (now nodes) values (now marks) (now counts) (now work)) ⌝ }
+    requires { ⌜ (h < nodeCount (now nodes)) × (kindWord (now nodes) h ≡ 1) ⌝ }
+    ensures { λ r. ⌜ ((values : List ℕ)
+        → Walking (now (exprs .entry)) (now (nodes .entry)) values (now (marks .entry)) (now (counts .entry))
+        (now (work .entry))
+        → ButLast (now (exprs .entry)) (now (nodes .entry)) values (now (work .entry)) h
+        (enter (holdsIn (now (exprs .entry)) values) (statementAt (now (nodes .entry)) h)
+        (walkIn (now (marks .entry)) (now (counts .entry)) (now (work .entry))))
+        (r .outcome) (r .last) (now (marks .exit)) (now (counts .exit)) (now (work .exit))) ⌝ }
 {
-    let end = words::end_word(nodes, h);
-    let mut child = j;
-    let mut met = looped;
-    while child < end {
-        let entry = enter_node(nodes, table, child, marks, counts, met);
-        if !entry.finished {
-            return entry;
+    let end = records::end_of(nodes, h);
+    let mut child = h + 1;
+    let mut next = records::end_of(nodes, child);
+    while next < end {
+        let outcome = enter_child(nodes, exprs, work, marks, counts, child);
+        if outcome != FINISHED {
+            return Turn {
+                outcome,
+                last: child,
+            };
         }
-        met = entry.looped;
-        child = words::end_word(nodes, child);
+        child = next;
+        next = records::end_of(nodes, child);
     }
-    Entry {
-        finished: true,
-        looped: met,
+    Turn {
+        outcome: FINISHED,
+        last: child,
     }
 }
 
-// Enter every child of PAR h, first child first; each that finishes lowers the count.
+// Enter every child of PAR h, first child first. Each that finishes lowers the count; the PAR is finished at 0.
 fn enter_each(
     nodes: &[u16],
-    table: &[u16],
-    h: u16,
+    exprs: &[u16],
+    work: &mut [u16; WORK],
     marks: &mut [u8],
     counts: &mut [u16],
-    looped: bool,
-) -> bool
-    requires { ⌜ Walkable (now nodes) (now marks) (now counts) ⌝ }
-    requires { ⌜ h < nodeCount (now nodes) ⌝ }
-    ensures { λ r. ⌜ walk (now (marks .exit)) (now (counts .exit)) r
-        ≡ enterEach (tableHolds (now (table .entry))) h
-        (statements (now (nodes .entry)) (suc h) (endAt (now (nodes .entry)) h))
-        (walk (now (marks .entry)) (now (counts .entry)) looped) ⌝ }
+    h: u16,
+) -> u16
+    requires { ⌜ ((values : List ℕ)
+        × Walking (now exprs) (now nodes) values (now marks) (now counts) (now work)) ⌝ }
+    requires { ⌜ (h < nodeCount (now nodes)) × (kindWord (now nodes) h ≡ 2) ⌝ }
+    ensures { λ r. ⌜ ((values : List ℕ)
+        → Walking (now (exprs .entry)) (now (nodes .entry)) values (now (marks .entry)) (now (counts .entry))
+        (now (work .entry))
+        → Enters (now (exprs .entry)) (now (nodes .entry)) values (now (work .entry))
+        (enter (holdsIn (now (exprs .entry)) values) (statementAt (now (nodes .entry)) h)
+        (walkIn (now (marks .entry)) (now (counts .entry)) (now (work .entry))))
+        r (now (marks .exit)) (now (counts .exit)) (now (work .exit))) ⌝ }
 {
-    let end = words::end_word(nodes, h);
+    counts[h as usize] = threads::count_children(nodes, h);
+    let end = records::end_of(nodes, h);
     let mut child = h + 1;
-    let mut met = looped;
     while child < end {
-        let entry = enter_node(nodes, table, child, marks, counts, met);
-        threads::lower_if_finished(counts, h, entry.finished);
-        met = entry.looped;
-        child = words::end_word(nodes, child);
+        let outcome = enter_child(nodes, exprs, work, marks, counts, child);
+        threads::lower_if_finished(counts, h, outcome == FINISHED);
+        child = records::end_of(nodes, child);
     }
-    met
+    threads::outcome(counts, h)
 }

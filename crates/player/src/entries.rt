@@ -1,38 +1,31 @@
-// Question 7: "Are there m entries left, and are they the marked nodes, each once?"
+// Question 7: each entry is crossed out of the lent marks. When all are crossed out no mark is left, for there are as many
+// entries as marks: so the marks are cleared for the walks.
 ghost use mathlib.Core.Path.{_≡_};
 ghost use mathlib.Core.Bool.{cond};
-ghost use Prim.Native.Nat.{_≤_};
-ghost use lib.Dec.{eqb};
-ghost use lib.ListN.{length, set};
-ghost use Rattle.semantics.specs.State.{markCount};
-ghost use Rattle.semantics.specs.Cycle.{areActive};
-ghost use Rattle.player.specs.Entries.{isNew, eachNew};
+ghost use Prim.Native.Nat.{ℕ, _<_};
+ghost use lib.ListN.{length, getD, set, take};
+ghost use Rattle.semantics.specs.State.{marked};
+ghost use Rattle.player.specs.Entries.{crossable, setAll};
 
-// A mark counts 1.
-fn one_if_marked(mark: u8) -> usize
-    ensures { λ r. ⌜ (r ≡ cond (eqb mark 1) 1 0) × (r ≤ 1) ⌝ }
+// Crosses entries out up to the first that has no mark, or none any more. Gives the number of entries before it.
+pub fn cross_out(marks: &mut [u8], entries: &[u16]) -> usize
+    ensures { λ r. ⌜ r ≡ crossable (now (marks .entry)) (now (entries .entry)) ⌝ }
+    ensures { λ r. ⌜ now (marks .exit) ≡ setAll 0 (now (marks .entry)) (take r (now (entries .entry))) ⌝ }
 {
-    if mark == 1 { 1 } else { 0 }
-}
-
-// m, the number of marks.
-pub fn count_marks(marks: &[u8]) -> usize
-    ensures { λ r. ⌜ r ≡ markCount (now (marks .entry)) ⌝ }
-{
-    let mut count: usize = 0;
-    let mut i = 0;
-    while i < marks.len() {
-        count += one_if_marked(marks[i]);
-        i += 1;
+    let mut k: usize = 0;
+    while k < entries.len() {
+        if !cross_one(marks, entries[k]) {
+            return k;
+        }
+        k += 1;
     }
-    count
+    k
 }
 
-// Whether node i is marked and not seen before; then it is seen.
-fn see(marks: &[u8], seen: &mut [u8], i: u16) -> bool
-    requires { ⌜ length (now marks) ≤ length (now seen) ⌝ }
-    ensures { λ r. ⌜ r ≡ isNew (now (marks .entry)) (now (seen .entry)) i ⌝ }
-    ensures { λ r. ⌜ now (seen .exit) ≡ cond r (set (now (seen .entry)) i 1) (now (seen .entry)) ⌝ }
+// Whether node i has a mark; then it is crossed out.
+fn cross_one(marks: &mut [u8], i: u16) -> bool
+    ensures { λ r. ⌜ (r ≡ marked (now (marks .entry)) i) ⌝ }
+    ensures { λ r. ⌜ now (marks .exit) ≡ cond r (set (now (marks .entry)) i 0) (now (marks .entry)) ⌝ }
 {
     let at = i as usize;
     if marks.len() <= at {
@@ -41,36 +34,25 @@ fn see(marks: &[u8], seen: &mut [u8], i: u16) -> bool
     if marks[at] != 1 {
         return false;
     }
-    if seen[at] != 0 {
-        return false;
-    }
-    seen[at] = 1;
+    marks[at] = 0;
     true
 }
 
-// Whether each entry is a marked node that was not seen before.
-fn each_new(marks: &[u8], seen: &mut [u8], entries: &[u16]) -> bool
-    requires { ⌜ length (now marks) ≤ length (now seen) ⌝ }
-    ensures { λ r. ⌜ r ≡ eachNew (now (marks .entry)) (now (seen .entry)) (now (entries .entry)) ⌝ }
+fn mark_one(marks: &mut [u8], i: u16)
+    requires { ⌜ i < length (now marks) ⌝ }
+    ensures { λ _. ⌜ now (marks .exit) ≡ set (now (marks .entry)) i 1 ⌝ }
 {
-    let mut k = 0;
+    marks[i as usize] = 1;
+}
+
+// Marks the entries again: what crossing them out undid.
+pub fn mark_again(marks: &mut [u8], entries: &[u16])
+    requires { ⌜ ((k : ℕ) → k < length (now entries) → getD (now entries) k 0 < length (now marks)) ⌝ }
+    ensures { λ _. ⌜ now (marks .exit) ≡ setAll 1 (now (marks .entry)) (now (entries .entry)) ⌝ }
+{
+    let mut k: usize = 0;
     while k < entries.len() {
-        if !see(marks, seen, entries[k]) {
-            return false;
-        }
+        mark_one(marks, entries[k]);
         k += 1;
     }
-    true
-}
-
-// Question 7.
-pub fn entries_ok(marks: &[u8], entries: &[u16]) -> bool
-    requires { ⌜ length (now marks) ≤ 1024 ⌝ }
-    ensures { λ r. ⌜ r ≡ areActive (now (marks .entry)) (now (entries .entry)) ⌝ }
-{
-    if entries.len() != count_marks(marks) {
-        return false;
-    }
-    let mut seen = [0u8; 1024];
-    each_new(marks, &mut seen, entries)
 }

@@ -1,115 +1,152 @@
-// Leaving a node: "Leave a node, looking at its parent." Each turn leaves one node.
+// Leaving a node, a climb: each turn leaves one node.
 use crate::enter;
+use crate::enter::FINISHED;
+use crate::records;
 use crate::threads;
-use program::words;
+use crate::work::PARENTS;
+use crate::work::WORK;
+use program::kinds::ASG;
+use program::kinds::DLY;
+use program::kinds::IF;
+use program::kinds::OUT;
+use program::kinds::PAR;
+use program::kinds::SEQ;
+use program::kinds::WHL;
 ghost use mathlib.Core.Path.{_≡_};
+ghost use mathlib.Core.Bool.{cond};
+ghost use mathlib.Core.List.{List};
+ghost use mathlib.Core.Option.{some};
 ghost use Prim.Native.Nat.{ℕ, _≤_, _<_};
-ghost use Rattle.semantics.specs.Program.{nodeCount, kindAt, endAt};
-ghost use Rattle.semantics.specs.Walk.{Walk, leaveChild, leave as leaveOf};
-ghost use Rattle.player.specs.Walks.{walk, leftTo, kindWord, tableHolds, Walkable};
+ghost use lib.Dec.{eqb};
+ghost use Rattle.semantics.specs.Program.{nodeCount};
+ghost use Rattle.semantics.specs.Parents.{parent};
+ghost use Rattle.semantics.specs.Walk.{leave};
+ghost use Rattle.player.specs.Work.{Climbing};
+ghost use Rattle.player.specs.Walks.{walkIn, holdsIn, kindWord, Walking, Walks, Turned};
 
-// What leaving a child gave: whether its parent is to be left next, and whether a zero-time loop was met so far.
-pub struct Left {
-    pub up: bool,
-    pub looped: bool,
+// Node i is left in the next turn where the outcome is that it finished; otherwise the climb is over.
+fn if_finished(outcome: u16, i: u16) -> u16
+    ensures { λ r. ⌜ r ≡ cond (eqb outcome 0) i 0 ⌝ }
+{
+    if outcome == FINISHED { i } else { 0 }
 }
 
-// A child of node h, an IF or a WHL, is left: "IF: leave the IF. WHL true: enter its child again; if that finishes,
-// zero-time loop; otherwise stop. WHL false: leave the WHL."
-fn leave_on_condition(
+// Node i, a child of SEQ h, is left: the next child is entered alone; if it stays, the climb is over, and if it finishes,
+// the next turn leaves it. With no next child the next turn leaves the SEQ.
+fn after_child(
     nodes: &[u16],
-    table: &[u16],
-    h: u16,
+    exprs: &[u16],
+    work: &mut [u16; WORK],
     marks: &mut [u8],
     counts: &mut [u16],
-    looped: bool,
-) -> Left
-    requires { ⌜ Walkable (now nodes) (now marks) (now counts) ⌝ }
-    requires { ⌜ (h < nodeCount (now nodes)) × (6 ≤ kindWord (now nodes) h) × (kindWord (now nodes) h ≤ 7) ⌝ }
-    ensures { λ r. ⌜ ((e : ℕ) (up : Walk → Walk) →
-        leaveChild (tableHolds (now (table .entry))) (now (nodes .entry)) (kindAt (now (nodes .entry)) h) h e up
-        (walk (now (marks .entry)) (now (counts .entry)) looped)
-        ≡ leftTo (r .up) up (walk (now (marks .exit)) (now (counts .exit)) (r .looped))) ⌝ }
-{
-    if words::kind_word(nodes, h) == 6 {
-        return Left { up: true, looped };
-    }
-    if !enter::condition(nodes, table, h) {
-        return Left { up: true, looped };
-    }
-    let body = enter::enter_in_turn(nodes, table, h, h + 1, marks, counts, looped);
-    let entry = enter::loop_if_finished(body);
-    Left {
-        up: entry.finished,
-        looped: entry.looped,
-    }
-}
-
-// Node i, a child of node h, is left. A leaf is no parent, and an accepted program has no other kind.
-fn leave_child(
-    nodes: &[u16],
-    table: &[u16],
     i: u16,
     h: u16,
+) -> u16
+    requires { ⌜ ((values : List ℕ)
+        × Walking (now exprs) (now nodes) values (now marks) (now counts) (now work)) ⌝ }
+    requires { ⌜ (i < nodeCount (now nodes)) × (parent (now nodes) i ≡ some h) × (kindWord (now nodes) h ≡ 1) ⌝ }
+    ensures { λ r. ⌜ ((values : List ℕ)
+        → Walking (now (exprs .entry)) (now (nodes .entry)) values (now (marks .entry)) (now (counts .entry))
+        (now (work .entry))
+        → Turned (now (exprs .entry)) (now (nodes .entry)) values (now (work .entry)) i
+        (walkIn (now (marks .entry)) (now (counts .entry)) (now (work .entry)))
+        r (now (marks .exit)) (now (counts .exit)) (now (work .exit))) ⌝ }
+{
+    let next = records::end_of(nodes, i);
+    if records::end_of(nodes, h) <= next {
+        return h;
+    }
+    let outcome = enter::enter_child(nodes, exprs, work, marks, counts, next);
+    if_finished(outcome, next)
+}
+
+// A child of node h, an IF or a WHL, is left. An IF is left in the next turn, and so is a WHL that is false. A WHL that is
+// true enters its child again, which is a zero-time loop if the child finishes.
+fn after_body(
+    nodes: &[u16],
+    exprs: &[u16],
+    work: &mut [u16; WORK],
     marks: &mut [u8],
     counts: &mut [u16],
-    looped: bool,
-) -> Left
-    requires { ⌜ Walkable (now nodes) (now marks) (now counts) ⌝ }
-    requires { ⌜ (h < i) × (i < nodeCount (now nodes)) × (i < endAt (now nodes) h) ⌝ }
-    ensures { λ r. ⌜ ((up : Walk → Walk) →
-        leaveChild (tableHolds (now (table .entry))) (now (nodes .entry)) (kindAt (now (nodes .entry)) h) h
-        (endAt (now (nodes .entry)) i) up (walk (now (marks .entry)) (now (counts .entry)) looped)
-        ≡ leftTo (r .up) up (walk (now (marks .exit)) (now (counts .exit)) (r .looped))) ⌝ }
+    h: u16,
+) -> u16
+    requires { ⌜ ((values : List ℕ)
+        × Walking (now exprs) (now nodes) values (now marks) (now counts) (now work)) ⌝ }
+    requires { ⌜ (h < nodeCount (now nodes)) × (6 ≤ kindWord (now nodes) h) × (kindWord (now nodes) h ≤ 7) ⌝ }
+    ensures { λ r. ⌜ ((values : List ℕ) (i : ℕ)
+        → Walking (now (exprs .entry)) (now (nodes .entry)) values (now (marks .entry)) (now (counts .entry))
+        (now (work .entry))
+        → i < nodeCount (now (nodes .entry)) → parent (now (nodes .entry)) i ≡ some h
+        → Turned (now (exprs .entry)) (now (nodes .entry)) values (now (work .entry)) i
+        (walkIn (now (marks .entry)) (now (counts .entry)) (now (work .entry)))
+        r (now (marks .exit)) (now (counts .exit)) (now (work .exit))) ⌝ }
 {
-    match words::kind_word(nodes, h) {
-        1 => {
-            let next = words::end_word(nodes, i);
-            let entry = enter::enter_in_turn(nodes, table, h, next, marks, counts, looped);
-            Left {
-                up: entry.finished,
-                looped: entry.looped,
-            }
-        }
-        2 => {
+    if records::kind_of(nodes, h) == IF {
+        return h;
+    }
+    if !enter::holds(nodes, exprs, work, h) {
+        return h;
+    }
+    let outcome = enter::enter_child(nodes, exprs, work, marks, counts, h + 1);
+    if_finished(enter::pass(work, true, outcome), h)
+}
+
+// One turn: node i, which is not node 0, is left. Gives the node that the next turn leaves, or 0 where the climb is over:
+// leaving node 0, which has no parent, does nothing. A PAR counts one thread fewer, and is left with the last. A leaf is no
+// parent, and an accepted program has no other kind.
+fn turn(
+    nodes: &[u16],
+    exprs: &[u16],
+    work: &mut [u16; WORK],
+    marks: &mut [u8],
+    counts: &mut [u16],
+    i: u16,
+) -> u16
+    requires { ⌜ ((values : List ℕ)
+        × Walking (now exprs) (now nodes) values (now marks) (now counts) (now work)) ⌝ }
+    requires { ⌜ (0 < i) × (i < nodeCount (now nodes)) × Climbing (now nodes) (now work) ⌝ }
+    ensures { λ r. ⌜ ((values : List ℕ)
+        → Walking (now (exprs .entry)) (now (nodes .entry)) values (now (marks .entry)) (now (counts .entry))
+        (now (work .entry))
+        → Turned (now (exprs .entry)) (now (nodes .entry)) values (now (work .entry)) i
+        (walkIn (now (marks .entry)) (now (counts .entry)) (now (work .entry)))
+        r (now (marks .exit)) (now (counts .exit)) (now (work .exit))) ⌝ }
+{
+    let h = work[PARENTS + (i as usize)];
+    match records::kind_of(nodes, h) {
+        SEQ => after_child(nodes, exprs, work, marks, counts, i, h),
+        PAR => {
             threads::lower(counts, h);
-            let count = counts[h as usize];
-            Left {
-                up: count == 0,
-                looped,
-            }
+            if_finished(threads::outcome(counts, h), h)
         }
-        6..=7 => leave_on_condition(nodes, table, h, marks, counts, looped),
-        3..=5 | 8 => Left { up: false, looped },
-        _ => Left { up: false, looped },
+        IF..=WHL => after_body(nodes, exprs, work, marks, counts, h),
+        ASG..=OUT | DLY => 0,
+        _ => 0,
     }
 }
 
-// Leave node i: marks and counts are written, and the flag says whether a zero-time loop was met so far.
+// Leave node i.
 pub fn leave(
     nodes: &[u16],
-    table: &[u16],
-    i: u16,
+    exprs: &[u16],
+    work: &mut [u16; WORK],
     marks: &mut [u8],
     counts: &mut [u16],
-    looped: bool,
-) -> bool
-    requires { ⌜ Walkable (now nodes) (now marks) (now counts) ⌝ }
-    requires { ⌜ i < nodeCount (now nodes) ⌝ }
-    ensures { λ r. ⌜ walk (now (marks .exit)) (now (counts .exit)) r
-        ≡ leaveOf (tableHolds (now (table .entry))) (now (nodes .entry)) i
-        (walk (now (marks .entry)) (now (counts .entry)) looped) ⌝ }
+    i: u16,
+)
+    requires { ⌜ ((values : List ℕ)
+        × Walking (now exprs) (now nodes) values (now marks) (now counts) (now work)) ⌝ }
+    requires { ⌜ (i < nodeCount (now nodes)) × Climbing (now nodes) (now work) ⌝ }
+    ensures { λ _. ⌜ ((values : List ℕ)
+        → Walking (now (exprs .entry)) (now (nodes .entry)) values (now (marks .entry)) (now (counts .entry))
+        (now (work .entry))
+        → Walks (now (exprs .entry)) (now (nodes .entry)) values (now (work .entry))
+        (leave (holdsIn (now (exprs .entry)) values) (now (nodes .entry)) i
+        (walkIn (now (marks .entry)) (now (counts .entry)) (now (work .entry))))
+        (now (marks .exit)) (now (counts .exit)) (now (work .exit))) ⌝ }
 {
     let mut node = i;
-    let mut met = looped;
     while 0 < node {
-        let parent = words::parent_word(nodes, node);
-        let left = leave_child(nodes, table, node, parent, marks, counts, met);
-        if !left.up {
-            return left.looped;
-        }
-        met = left.looped;
-        node = parent;
+        node = turn(nodes, exprs, work, marks, counts, node);
     }
-    met
 }

@@ -1,4 +1,4 @@
-// Question 5: "Do the lent state lists have lengths V, N and N?"
+// Question 5: the three lists of a state are as long as the program asks.
 ghost use mathlib.Core.Path.{_≡_};
 ghost use mathlib.Core.Bool.{_&&_};
 ghost use lib.Dec.{eqb};

@@ -1,25 +1,31 @@
 // The player's calls, and the walks over accepted programs that they are made of.
-mod begun; // entering node 0
 pub mod c_interface; // the calls for C
 mod channels; // question 8, and what waits
+mod claims; // what a cycle claims
 mod copy; // copying and clearing a list
 mod cycle; // one cycle
 mod cycles; // the cycles of a run
 mod enter; // entering a node
 mod entries; // question 7
+mod expressions; // the values of single expressions
 mod leave; // leaving a node
 mod lengths; // question 5
-mod slots; // tables of claims
+mod marks; // marks, and how many stand
+mod records; // the words of the records
+mod root; // entering node 0
+mod start; // what a run starts with
 mod stores; // question 9, and what is stored
 mod threads; // thread counts
+mod undo; // what question 10 takes back
 mod visits; // the walks of a cycle
 mod well_formed; // question 6
+mod work; // what a run keeps beside the lent lists
 
-use begun::enter_first;
 use cycles::work_cycles;
 use lengths::lengths_fit;
 pub use program::Checked;
 pub use program::check;
+use root::enter_root;
 use well_formed::well_formed;
 ghost use Rattle.program.specs.Answer.{programOf};
 ghost use Rattle.player.specs.Begin.{stateOf, BeginAnswer};
@@ -53,7 +59,7 @@ pub fn begin(
     ) {
         return Checked { number: 5, item: 0 };
     }
-    if enter_first(exprs, nodes, values, marks, counts) {
+    if enter_root(exprs, nodes, values, marks, counts) {
         return Checked {
             number: 10,
             item: 0,
@@ -69,8 +75,7 @@ pub struct Ran {
     pub worked: u16,
 }
 
-// Runs a program from the state in the three lists, by a schedule (the book of the rules), for as many cycles as are
-// asked.
+// Runs a program from the state in the three lists, by a book, for as many cycles as are asked.
 pub fn run(
     exprs: &[u16],
     nodes: &[u16],
@@ -79,11 +84,11 @@ pub fn run(
     values: &mut [u16],
     marks: &mut [u8],
     counts: &mut [u16],
-    schedule: &[u16],
+    book: &[u16],
     cycles: u16,
 ) -> Ran
     ensures { λ r. ⌜ RunAnswer (programOf (now (exprs .entry)) (now (nodes .entry)) vars chans) cycles
-        (stateOf (now (values .entry)) (now (marks .entry)) (now (counts .entry))) (now (schedule .entry))
+        (stateOf (now (values .entry)) (now (marks .entry)) (now (counts .entry))) (now (book .entry))
         (r .number) (r .item) (r .worked) (stateOf (now (values .exit)) (now (marks .exit)) (now (counts .exit))) ⌝ }
 {
     let checked = program::check(exprs, nodes, vars, chans);
@@ -114,15 +119,5 @@ pub fn run(
             worked: 0,
         };
     }
-    work_cycles(
-        exprs,
-        nodes,
-        vars,
-        chans,
-        values,
-        marks,
-        counts,
-        schedule,
-        cycles,
-    )
+    work_cycles(exprs, nodes, values, marks, counts, book, cycles)
 }

@@ -1,14 +1,23 @@
 // Thread counts: the count of a PAR is the number of its children that have not finished.
-use program::words;
+use crate::records;
 ghost use mathlib.Core.Path.{_≡_};
 ghost use mathlib.Core.Bool.{cond};
 ghost use Prim.Native.Nat.{suc, _-_, _≤_, _<_};
-ghost use lib.ListN.{length};
+ghost use lib.Dec.{eqb};
+ghost use lib.ListN.{length, getD};
 ghost use Rattle.semantics.specs.Program.{nodeCount, endAt};
 ghost use Rattle.semantics.specs.Tree.{statements};
 ghost use Rattle.semantics.specs.Walk.{childCount};
-ghost use Rattle.semantics.proofs.QuestionLaws.{NodesOk};
+ghost use Rattle.semantics.specs.Facts.{NodesOk};
 ghost use Rattle.player.specs.Walks.{lowered};
+
+// PAR h is finished at count 0.
+pub fn outcome(counts: &[u16], h: u16) -> u16
+    requires { ⌜ h < length (now counts) ⌝ }
+    ensures { λ r. ⌜ r ≡ cond (eqb (getD (now (counts .entry)) h 0) 0) 0 1 ⌝ }
+{
+    if counts[h as usize] == 0 { 0 } else { 1 }
+}
 
 // The number of children of node h.
 pub fn count_children(nodes: &[u16], h: u16) -> u16
@@ -16,12 +25,12 @@ pub fn count_children(nodes: &[u16], h: u16) -> u16
     requires { ⌜ (h < nodeCount (now nodes)) × (nodeCount (now nodes) ≤ 1024) ⌝ }
     ensures { λ r. ⌜ r ≡ childCount (statements (now (nodes .entry)) (suc h) (endAt (now (nodes .entry)) h)) ⌝ }
 {
-    let end = words::end_word(nodes, h);
+    let end = records::end_of(nodes, h);
     let mut count: u16 = 0;
     let mut child = h + 1;
     while child < end {
         count += 1;
-        child = words::end_word(nodes, child);
+        child = records::end_of(nodes, child);
     }
     count
 }

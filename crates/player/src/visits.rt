@@ -1,65 +1,72 @@
-// The walks of a cycle: "In the book's order, a waiting leaf marks itself; a completing leaf is left."
+// The walks of a cycle, entry after entry: a leaf that waits is marked again, and one that completes is left.
 use crate::channels;
+use crate::claims::CLAIMS;
 use crate::leave;
+use crate::marks;
+use crate::work::WORK;
 ghost use mathlib.Core.Path.{_≡_};
-ghost use mathlib.Core.Bool.{false};
 ghost use mathlib.Core.List.{List, foldl};
 ghost use Prim.Native.Nat.{ℕ, _<_};
 ghost use Rattle.semantics.specs.Program.{nodeCount};
 ghost use Rattle.semantics.specs.Cycle.{visit};
-ghost use Rattle.player.specs.Walks.{walk, tableHolds, Walkable};
 ghost use Rattle.player.specs.Begin.{stateOf};
-ghost use Rattle.player.specs.Cycles.{CycleOf, Paired, program};
-ghost use Rattle.player.specs.CycleSteps.{PairedEntry};
+ghost use Rattle.player.specs.Work.{Climbing};
+ghost use Rattle.player.specs.Walks.{walkIn, holdsIn, Walking, Walks};
+ghost use Rattle.player.specs.Channels.{CycleOf, Paired, PairedEntry, program};
 
-// Entry i: marks and counts are written, and the flag says whether a zero-time loop was met so far.
-fn visit_one(
+// Entry i.
+fn visit(
     nodes: &[u16],
-    table: &[u16],
-    ins: &[u16],
-    outs: &[u16],
-    i: u16,
+    exprs: &[u16],
+    work: &mut [u16; WORK],
     marks: &mut [u8],
     counts: &mut [u16],
-    looped: bool,
-) -> bool
-    requires { ⌜ Walkable (now nodes) (now marks) (now counts) ⌝ }
-    requires { ⌜ i < nodeCount (now nodes) ⌝ }
-    ensures { λ r. ⌜ ((x : PairedEntry (now (nodes .entry)) (now (ins .entry)) (now (outs .entry)) i)
-        (values counts₀ : List ℕ) → walk (now (marks .exit)) (now (counts .exit)) r
-        ≡ visit (program (x .cycle)) (stateOf values (x .cycle .marks) counts₀) (tableHolds (now (table .entry)))
-        (walk (now (marks .entry)) (now (counts .entry)) looped) i) ⌝ }
+    claims: &[u16; CLAIMS],
+    i: u16,
+)
+    requires { ⌜ ((values : List ℕ)
+        × Walking (now exprs) (now nodes) values (now marks) (now counts) (now work)) ⌝ }
+    requires { ⌜ PairedEntry (now nodes) (now claims) i × Climbing (now nodes) (now work) ⌝ }
+    ensures { λ _. ⌜ ((values old counts₀ : List ℕ) (x : PairedEntry (now (nodes .entry)) (now (claims .entry)) i)
+        → Walking (now (exprs .entry)) (now (nodes .entry)) values (now (marks .entry)) (now (counts .entry))
+        (now (work .entry))
+        → Walks (now (exprs .entry)) (now (nodes .entry)) values (now (work .entry))
+        (visit (program (x .cycle)) (stateOf old (x .cycle .marks) counts₀) (holdsIn (now (exprs .entry)) values)
+        (walkIn (now (marks .entry)) (now (counts .entry)) (now (work .entry))) i)
+        (now (marks .exit)) (now (counts .exit)) (now (work .exit))) ⌝ }
 {
-    if channels::waits(nodes, ins, outs, i) {
-        marks[i as usize] = 1;
-        return looped;
+    if channels::waits(nodes, claims, i) {
+        marks::mark(work, marks, i);
+    } else {
+        leave::leave(nodes, exprs, work, marks, counts, i);
     }
-    leave::leave(nodes, table, i, marks, counts, looped)
 }
 
-// All entries. The conditions are those of the table.
+// All entries.
 pub fn visit_all(
     nodes: &[u16],
-    table: &[u16],
-    ins: &[u16],
-    outs: &[u16],
-    entries: &[u16],
+    exprs: &[u16],
+    work: &mut [u16; WORK],
     marks: &mut [u8],
     counts: &mut [u16],
-) -> bool
-    requires { ⌜ Walkable (now nodes) (now marks) (now counts) ⌝ }
-    requires { ⌜ ((x : CycleOf (now nodes) (now entries)) × Paired x (now ins) (now outs)) ⌝ }
-    ensures { λ r. ⌜ ((x : CycleOf (now (nodes .entry)) (now (entries .entry)))
-        → Paired x (now (ins .entry)) (now (outs .entry)) → (values counts₀ : List ℕ)
-        → walk (now (marks .exit)) (now (counts .exit)) r
-        ≡ foldl (visit (program x) (stateOf values (x .marks) counts₀) (tableHolds (now (table .entry))))
-        (walk (now (marks .entry)) (now (counts .entry)) false) (now (entries .entry))) ⌝ }
+    claims: &[u16; CLAIMS],
+    entries: &[u16],
+)
+    requires { ⌜ ((values : List ℕ)
+        × Walking (now exprs) (now nodes) values (now marks) (now counts) (now work)) ⌝ }
+    requires { ⌜ ((x : CycleOf (now nodes) (now entries)) × Paired x (now claims)) × Climbing (now nodes) (now work) ⌝ }
+    ensures { λ _. ⌜ ((values old counts₀ : List ℕ) (x : CycleOf (now (nodes .entry)) (now (entries .entry)))
+        → Paired x (now (claims .entry))
+        → Walking (now (exprs .entry)) (now (nodes .entry)) values (now (marks .entry)) (now (counts .entry))
+        (now (work .entry))
+        → Walks (now (exprs .entry)) (now (nodes .entry)) values (now (work .entry))
+        (foldl (visit (program x) (stateOf old (x .marks) counts₀) (holdsIn (now (exprs .entry)) values))
+        (walkIn (now (marks .entry)) (now (counts .entry)) (now (work .entry))) (now (entries .entry)))
+        (now (marks .exit)) (now (counts .exit)) (now (work .exit))) ⌝ }
 {
-    let mut looped = false;
-    let mut k = 0;
+    let mut k: usize = 0;
     while k < entries.len() {
-        looped = visit_one(nodes, table, ins, outs, entries[k], marks, counts, looped);
+        visit(nodes, exprs, work, marks, counts, claims, entries[k]);
         k += 1;
     }
-    looped
 }

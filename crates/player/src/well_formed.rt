@@ -1,27 +1,34 @@
-// Question 6, is the state well formed, in one pass from the last node to the first. The table `live` has the number of
-// each node's children with a marked leaf at or below them: they have higher numbers, so they are counted before it.
+// Question 6, is the state well formed, in one pass from the last node to the first. The table `live` has for
+// each node the number of its live children, those that hold a mark: their numbers are higher, so they are counted first.
+use program::kinds::ASG;
+use program::kinds::DLY;
+use program::kinds::IF;
+use program::kinds::OUT;
+use program::kinds::PAR;
+use program::kinds::SEQ;
+use program::kinds::WHL;
+use program::limits::NODES_MAX;
 use program::words;
 ghost use mathlib.Core.Path.{_≡_};
 ghost use Rattle.semantics.specs.Numbers.{below, every};
 ghost use Rattle.semantics.specs.Program.{kindOf, nodeCount};
-ghost use Rattle.semantics.proofs.WellFormedLocally.{nodeWellFormed, locallyOk};
-ghost use Rattle.player.specs.Walks.{Walkable};
-ghost use Rattle.player.specs.WellFormed.{WellFormedAnswer, addedToParent, ParentFits, LiveTable};
+ghost use Rattle.semantics.specs.Facts.{locallyOk, nodeWellFormed};
+ghost use Rattle.player.specs.WellFormed.{ListsFit, WellFormedAnswer, addedToParent, ParentFits, LiveTable};
 
 // What question 6 asks of one node, of whose children `live` have a marked leaf at or below them.
 fn node_well_formed(kind: u16, mark: u8, count: u16, live: u16) -> bool
     ensures { λ r. ⌜ r ≡ nodeWellFormed (kindOf kind) mark count live ⌝ }
 {
     match kind {
-        2 => (mark == 0) & (count == live),
-        1 | 6..=7 => (mark == 0) & (count == 0) & (live <= 1),
-        3..=5 | 8 => (mark <= 1) & (count == 0),
+        PAR => (mark == 0) & (count == live),
+        SEQ | IF..=WHL => (mark == 0) & (count == 0) & (live <= 1),
+        ASG..=OUT | DLY => (mark <= 1) & (count == 0),
         _ => false,
     }
 }
 
 // Where a mark stands at or below node i, its parent has one more such child. Node 0 has no parent.
-fn add_to_parent(nodes: &[u16], i: u16, holds: bool, live: &mut [u16])
+pub fn add_to_parent(nodes: &[u16], i: u16, holds: bool, live: &mut [u16])
     requires { ⌜ ParentFits (now nodes) i (now live) ⌝ }
     ensures { λ r. ⌜ now (live .exit) ≡ addedToParent (now (nodes .entry)) i holds (now (live .entry)) ⌝ }
 {
@@ -33,7 +40,7 @@ fn add_to_parent(nodes: &[u16], i: u16, holds: bool, live: &mut [u16])
 
 // Every node, from the last to the first, with a table of zeros to fill.
 fn nodes_well_formed(nodes: &[u16], marks: &[u8], counts: &[u16], live: &mut [u16]) -> bool
-    requires { ⌜ Walkable (now nodes) (now marks) (now counts) ⌝ }
+    requires { ⌜ ListsFit (now nodes) (now marks) (now counts) ⌝ }
     requires { ⌜ LiveTable (now nodes) (now marks) (nodeCount (now nodes)) (now live) ⌝ }
     ensures { λ r. ⌜ r ≡ every (locallyOk (now (nodes .entry)) (now (marks .entry)) (now (counts .entry)))
         (below (nodeCount (now (nodes .entry)))) ⌝ }
@@ -55,9 +62,9 @@ fn nodes_well_formed(nodes: &[u16], marks: &[u8], counts: &[u16], live: &mut [u1
 
 // Question 6 of a state whose lists fit a program whose every node is ok.
 pub fn well_formed(nodes: &[u16], marks: &[u8], counts: &[u16]) -> bool
-    requires { ⌜ Walkable (now nodes) (now marks) (now counts) ⌝ }
+    requires { ⌜ ListsFit (now nodes) (now marks) (now counts) ⌝ }
     ensures { λ r. ⌜ WellFormedAnswer (now (nodes .entry)) (now (marks .entry)) (now (counts .entry)) r ⌝ }
 {
-    let mut live = [0u16; 1024];
+    let mut live = [0u16; NODES_MAX];
     nodes_well_formed(nodes, marks, counts, &mut live)
 }

@@ -5,11 +5,11 @@ use borrow.Author.Needs.{needs}
 use borrow.Author.Tests.{ne-eqb, not-true, not-false}
 use Rattle.semantics.specs.Program.{Program}
 use Rattle.semantics.specs.Check.{checkNumber}
-use Rattle.semantics.specs.State.{State, fits}
-use Rattle.semantics.proofs.QuestionLaws.{accepted}
+use Rattle.semantics.specs.State.{State, lengthsOk}
+use Rattle.semantics.proofs.Lists.QuestionLaws.{accepted}
+use Rattle.semantics.proofs.Order.CycleOrder.{fits-lengths}
 use Rattle.program.specs.Answer.{programOf}
 use Rattle.player.specs.Begin.{stateOf}
-use Rattle.player.proofs.AcceptedLaws.{accepted-walkable}
 use Rattle.player.proofs.BeginLaws.{answer-check, answer-5, answer-10, answer-0}
 use Rattle.player.proofs.begin.Statement.{statement}
 use Rattle.player.proofs.begin.Tie as tie
@@ -28,12 +28,9 @@ checked c = sym (c .if1 .left) ∙ c .before .before .check .ensures .rightNumbe
 
 -- and question 5
 fitting : (c : tie.Else2) → let s = c .before .before .before .before .before .before .before .before .before .before in
-    fits (program s) (state s) ≡ true
-unfolding fits
+    lengthsOk (program s) (state s) ≡ true
+unfolding lengthsOk
 fitting c = sym (c .before .lengths-fit .ensures) ∙ not-false _ (c .if2 .left)
-
-check-requires : tie.Need-check-requires
-check-requires c κs = search needs
 
 returns : tie.Need-returns
 returns c =
@@ -42,28 +39,19 @@ returns c =
     answer-check (program s) (state s) (check .result .number) (check .result .item) (check .ensures)
     (ne-eqb (check .result .number) 0 (c .if1 .taken))
 
-lengths-fit-requires : tie.Need-lengths-fit-requires
-lengths-fit-requires c κs = search needs
-
 returns-2 : tie.Need-returns-2
-unfolding fits
+unfolding lengthsOk
 returns-2 c =
     let s = c .before .before .before .before .before .before .before .before .before .before in
     answer-5 (program s) (state s) (checked (c .before .before))
     (sym (c .before .lengths-fit .ensures) ∙ not-true _ (c .if2 .taken))
 
-enter-first-requires : tie.Need-enter-first-requires
-enter-first-requires c κs =
+enter-root-requires : tie.Need-enter-root-requires
+enter-root-requires c κs =
     let s = c .before .before .before .before .before .before .before .before .before .before .before .before in
-    let ok = sym (checked (c .before .before .before .before)) in
-    let sizes = accepted (program s) ok .sizes in
-    (accepted-walkable (program s) (state s) ok (fitting (c .before .before)), (sizes .someNode, sizes .exprsFit))
-
-same-length : tie.Need-same-length
-same-length c = search needs
-
-same-length-2 : tie.Need-same-length-2
-same-length-2 c = search needs
+    let ok = accepted (program s) (sym (checked (c .before .before .before .before))) in
+    let fit = fits-lengths (program s) (state s) (fitting (c .before .before)) in
+    ((s .args .chans, rw (fit .values) ok), (fit .marks, fit .counts))
 
 returns-3 : tie.Need-returns-3
 returns-3 c =
@@ -71,13 +59,7 @@ returns-3 c =
     let asked = call .before .before .before in
     let s = asked .before .before .before .before .before .before .before .before .before .before in
     answer-10 (program s) (state s) (checked (asked .before .before)) (fitting asked)
-    (call .enter-first .ensures (s .args .vars) (s .args .chans)) (c .if3 .taken)
-
-same-length-3 : tie.Need-same-length-3
-same-length-3 c = search needs
-
-same-length-4 : tie.Need-same-length-4
-same-length-4 c = search needs
+    (call .enter-root .ensures (s .args .vars) (s .args .chans)) (c .if3 .taken)
 
 returns-4 : tie.Need-returns-4
 returns-4 c =
@@ -85,20 +67,20 @@ returns-4 c =
     let asked = call .before .before .before in
     let s = asked .before .before .before .before .before .before .before .before .before .before in
     answer-0 (program s) (state s) (checked (asked .before .before)) (fitting asked)
-    (call .enter-first .ensures (s .args .vars) (s .args .chans)) (c .if3 .left)
+    (call .enter-root .ensures (s .args .vars) (s .args .chans)) (c .if3 .left)
 
 pub begin-spec : {M : Type 1} → statement M
 begin-spec =
     tie.close
     (tie.spec
-    check-requires
+    (λ c κs. search needs)
     returns
-    lengths-fit-requires
+    (λ c κs. search needs)
     returns-2
-    enter-first-requires
-    same-length
-    same-length-2
+    enter-root-requires
+    (λ c. search needs)
+    (λ c. search needs)
     returns-3
-    same-length-3
-    same-length-4
+    (λ c. search needs)
+    (λ c. search needs)
     returns-4)

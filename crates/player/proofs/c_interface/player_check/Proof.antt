@@ -3,14 +3,8 @@ use borrow.Author.Needs.{needs}
 use Rattle.player.proofs.c_interface.player_check.Statement.{statement}
 use Rattle.player.proofs.c_interface.player_check.Tie as tie
 
-check-requires : tie.Need-check-requires
-check-requires c κs = search needs
-
-word-of-requires : tie.Need-word-of-requires
-word-of-requires c κs = search needs
-
 returns : tie.Need-returns
 returns c = rw (c .word-of .ensures .0, c .word-of .ensures .1) (c .before .check .ensures)
 
 pub player-check-spec : {M : Type 1} → statement M
-player-check-spec = tie.close (tie.spec check-requires word-of-requires returns)
+player-check-spec = tie.close (tie.spec (λ c κs. search needs) (λ c κs. search needs) returns)

@@ -1,87 +1,64 @@
 -- `pair_channels` has the first k entries claim their channels.
-use mathlib.Core.Path.{_≡_, refl, sym, _∙_}
-use mathlib.Core.Bool.{true}
+use mathlib.Core.Bool.{true, false}
 use Prim.Native.Nat.{_≤_, _-_}
 use native.Mathlib.Omega.{arith}
 use lib.ListN.{length, getD}
 use borrow.Author.Needs.{needs}
 use borrow.Author.Tests.{not-true, not-false}
-use Rattle.player.proofs.CycleLaws.{entry-marked, marked-small}
+use Rattle.player.specs.Channels.{EntryPairing}
+use Rattle.player.proofs.CycleLaws.{entry-marked, marked-node}
 use Rattle.player.proofs.PairingLaws.{PairedTo, paired-none, paired-all, paired-more, paired-refused}
 use Rattle.player.proofs.PairingLaws.{in-inside, out-inside}
 use Rattle.player.proofs.channels.pair_channels.Statement.{statement}
 use Rattle.player.proofs.channels.pair_channels.Tie as tie
 
 abbrev Inv-loop : tie.InvT-loop
-Inv-loop nodes entries ins₀ outs₀ k₀ ins outs k =
-    (k ≤ length entries) × PairedTo nodes entries k ins outs
-    × (length ins ≡ length ins₀) × (length outs ≡ length outs₀)
+Inv-loop nodes entries claims₀ k₀ claims k = (k ≤ length entries) × PairedTo nodes entries k claims₀ claims
 
 abbrev μ-loop : tie.MeasureT-loop
-μ-loop nodes entries ins₀ outs₀ k₀ ins outs k = length entries - k
+μ-loop nodes entries claims₀ k₀ claims k = length entries - k
 
 loop-holds : tie.Need-loop-holds Inv-loop μ-loop
 loop-holds c =
-    let a = c .before .before .before .before .args in
-    let zeros = c .before .before .before .before .pre .1 in
-    (search needs, rw (zeros .0, zeros .1) (paired-none (a .nodes .now) (a .entries .now)), refl, refl)
-
-mul-pair-one : tie.Need-mul-pair-one Inv-loop μ-loop
-mul-pair-one c = search needs
-
-shared-slice-read-pair-one : tie.Need-shared-slice-read-pair-one Inv-loop μ-loop
-shared-slice-read-pair-one c = search needs
+    let start = c .before .before in
+    (search needs, paired-none (start .args .nodes .now) (start .args .entries .now) (start .pre .1))
 
 pair-one-requires : tie.Need-pair-one-requires Inv-loop μ-loop
 pair-one-requires c κs =
-    let test = c .before .before .before in
+    let test = c .before .before in
     let l = test .before .loop in
-    let start = test .before .before .before .before .before .before in
+    let start = test .before .before .before .before in
     let x = start .pre .0 in
-    let more = test .loop-test .taken in
-    let small = marked-small x (getD (start .args .entries .now) (l .k) 0) (entry-marked x (l .k) more) in
-    (in-inside x (l .inv .1) more, (out-inside x (l .inv .1) more, omega arith))
-
-same-length : tie.Need-same-length Inv-loop μ-loop
-same-length c = search needs
-
-same-length-2 : tie.Need-same-length-2 Inv-loop μ-loop
-same-length-2 c = search needs
+    let more = test .loop-test .taken in (
+      (
+        marked-node x (getD (start .args .entries .now) (l .k) 0) (entry-marked x (l .k) more),
+        l .inv .1 .only .aged .size,
+      ),
+      (in-inside x (l .inv .1) more, out-inside x (l .inv .1) more),
+    )
 
 returns : tie.Need-returns Inv-loop μ-loop
 returns c =
-    let called = c .before .before .before .before .before in
-    let test = called .before .before .before .before in
+    let test = c .before .before .before .before in
     let l = test .before .loop in
-    let stop = sym (called .pair-one .ensures .0) ∙ not-true _ (c .if1 .taken) in
-    λ x. paired-refused x (l .inv .1) (test .loop-test .taken) stop
-
-add-k : tie.Need-add-k Inv-loop μ-loop
-add-k c = search needs
-
-loop-less : tie.Need-loop-less Inv-loop μ-loop
-loop-less c = search needs
+    let a = test .before .before .before .before .args in
+    let one = c .before .pair-one in
+    let entry = getD (a .entries .now) (l .k) 0 in
+    let refused : EntryPairing (a .nodes .now) entry false (l .claims) (one .last .1 .1 .0) =
+    rw (not-true (one .result) (c .if1 .taken)) at (one .ensures) in
+    λ x. paired-refused x (l .inv .1) (test .loop-test .taken) refused
 
 loop-again : tie.Need-loop-again Inv-loop μ-loop
 loop-again c =
-    let called = c .before .before .before .before .before in
-    let test = called .before .before .before .before in
+    let test = c .before .before .before .before in
     let l = test .before .loop in
-    let x = test .before .before .before .before .before .before .pre .0 in
-    let one = called .pair-one in
-    let on : one .result ≡ true = not-false _ (c .if1 .left) in
-    let more = paired-more x (l .inv .1) (test .loop-test .taken) (sym (one .ensures .0) ∙ on) in (
-      omega arith,
-      rw (one .ensures .1 .0 on, one .ensures .1 .1 on) more,
-      one .kept .1 .1 .0 ∙ l .inv .2,
-      one .kept .1 .1 .1 .0 ∙ l .inv .3,
-    )
-
-same-length-3 : tie.Need-same-length-3 Inv-loop μ-loop
-same-length-3 c = search needs
-
-same-length-4 : tie.Need-same-length-4 Inv-loop μ-loop
-same-length-4 c = search needs
+    let start = test .before .before .before .before in
+    let a = start .args in
+    let one = c .before .pair-one in
+    let entry = getD (a .entries .now) (l .k) 0 in
+    let paired : EntryPairing (a .nodes .now) entry true (l .claims) (one .last .1 .1 .0) =
+    rw (not-false (one .result) (c .if1 .left)) at (one .ensures) in
+    (omega arith, paired-more (start .pre .0) (l .inv .1) (test .loop-test .taken) paired)
 
 returns-2 : tie.Need-returns-2 Inv-loop μ-loop
 returns-2 c =
@@ -95,15 +72,11 @@ pair-channels-spec =
     Inv-loop
     μ-loop
     loop-holds
-    mul-pair-one
-    shared-slice-read-pair-one
+    (λ c. search needs)
+    (λ c. search needs)
     pair-one-requires
-    same-length
-    same-length-2
     returns
-    add-k
-    loop-less
+    (λ c. search needs)
+    (λ c. search needs)
     loop-again
-    same-length-3
-    same-length-4
     returns-2)

@@ -1,89 +1,67 @@
--- `pair_one` claims by the kind's number: an IN in the one table, an OUT in the other.
-use mathlib.Core.Path.{_≡_, refl, sym, _∙_}
-use mathlib.Core.Bool.{and-true}
+-- `pair_one` claims by the kind's number: an IN for input, an OUT for output.
+use mathlib.Core.Path.{_≡_, sym, _∙_}
 use Prim.Native.Nat.{_*_}
 use lib.ListN.{getD}
-use borrow.Author.Tests.{ne-eqb}
 use Rattle.semantics.specs.Program.{kindOf}
-use Rattle.semantics.proofs.LeafKinds.{in-number, out-number}
+use Rattle.player.proofs.EntryPairingLaws.{in-paired, out-paired, nothing-paired}
 use borrow.Author.Needs.{needs}
 use Rattle.player.proofs.channels.pair_one.Statement.{statement}
 use Rattle.player.proofs.channels.pair_one.Tie as tie
 
-kind-word-requires : tie.Need-kind-word-requires
-kind-word-requires c κs = search needs
-
-channel-of-requires : tie.Need-channel-of-requires
-channel-of-requires c κs = search needs
-
-claim-requires : tie.Need-claim-requires
+claim-in-requires : tie.Need-claim-in-requires
 unfolding kindOf
-claim-requires c κs =
+claim-in-requires c κs =
     let kind = c .before .before .before in
-    let start = kind .before .before .before .before in
+    let start = kind .before .before in
     let a = start .args in
-    let w : getD (a .nodes .now) (5 * a .i) 0 ≡ 4 = sym (kind .kind-word .ensures) ∙ c .before .before .match .keys1 in
-    (rw (c .channel-of .ensures) (start .pre .0 (rw w)), start .pre .1 .1)
+    let w : getD (a .nodes .now) (5 * a .i) 0 ≡ 4 = sym (kind .kind-of .ensures) ∙ c .before .before .match .keys1 in
+    (rw (c .channel-of .ensures) (start .pre .1 .0 (rw w)), start .pre .0 .1)
 
-channel-of-requires-2 : tie.Need-channel-of-requires-2
-channel-of-requires-2 c κs = search needs
-
-claim-requires-2 : tie.Need-claim-requires-2
+claim-out-requires : tie.Need-claim-out-requires
 unfolding kindOf
-claim-requires-2 c κs =
+claim-out-requires c κs =
     let kind = c .before .before .before in
-    let start = kind .before .before .before .before in
+    let start = kind .before .before in
     let a = start .args in
-    let w : getD (a .nodes .now) (5 * a .i) 0 ≡ 5 = sym (kind .kind-word .ensures) ∙ c .before .before .match .keys2 in
-    (rw (c .channel-of2 .ensures) (start .pre .1 .0 (rw w)), start .pre .1 .1)
-
-same-length : tie.Need-same-length
-same-length c = search needs
+    let w : getD (a .nodes .now) (5 * a .i) 0 ≡ 5 = sym (kind .kind-of .ensures) ∙ c .before .before .match .keys2 in
+    (rw (c .channel-of2 .ensures) (start .pre .1 .1 (rw w)), start .pre .0 .1)
 
 returns : tie.Need-returns
 unfolding kindOf
 returns c =
-    let called = c .before .before in
-    let arm = called .before .before .before in
-    let a = arm .before .before .before .before .before .args in
-    let w : getD (a .nodes .now) (5 * a .i) 0 ≡ 4 = sym (arm .before .kind-word .ensures) ∙ arm .match .keys1 in
-    let claim = called .claim .ensures in
-    rw (sym (called .before .channel-of .ensures), w)
-    (claim .wasFree ∙ sym (and-true _), (λ r. claim .isClaimed ∙ rw r, λ r. refl))
-
-same-length-2 : tie.Need-same-length-2
-same-length-2 c = search needs
+    let arm = c .before .before .before in
+    let start = arm .before .before .before in
+    let a = start .args in
+    let w : getD (a .nodes .now) (5 * a .i) 0 ≡ 4 = sym (arm .before .kind-of .ensures) ∙ arm .match .keys1 in
+    in-paired (a .nodes .now) (a .i) w (start .pre .1 .0 (rw w))
+    (rw (c .before .channel-of .ensures) at (c .claim-in .ensures))
 
 returns-2 : tie.Need-returns-2
 unfolding kindOf
 returns-2 c =
-    let called = c .before .before in
-    let arm = called .before .before .before in
-    let a = arm .before .before .before .before .before .args in
-    let w : getD (a .nodes .now) (5 * a .i) 0 ≡ 5 = sym (arm .before .kind-word .ensures) ∙ arm .match .keys2 in
-    let claim = called .claim2 .ensures in
-    rw (sym (called .before .channel-of2 .ensures), w)
-    (claim .wasFree, (λ r. refl, λ r. claim .isClaimed ∙ rw r))
+    let arm = c .before .before .before in
+    let start = arm .before .before .before in
+    let a = start .args in
+    let w : getD (a .nodes .now) (5 * a .i) 0 ≡ 5 = sym (arm .before .kind-of .ensures) ∙ arm .match .keys2 in
+    out-paired (a .nodes .now) (a .i) w (start .pre .1 .1 (rw w))
+    (rw (c .before .channel-of2 .ensures) at (c .claim-out .ensures))
 
 returns-3 : tie.Need-returns-3
 returns-3 c =
-    let a = c .before .before .before .before .before .args in
-    let e = c .before .kind-word .ensures in
-    let noIn = in-number (getD (a .nodes .now) (5 * a .i) 0) ∙ ne-eqb _ 4 (λ q. c .match .rest .0 .1 (e ∙ q)) in
-    let noOut = out-number (getD (a .nodes .now) (5 * a .i) 0) ∙ ne-eqb _ 5 (λ q. c .match .rest .1 (e ∙ q)) in
-    rw (noIn, noOut) (refl, (λ r. refl, λ r. refl))
+    let a = c .before .before .before .args in
+    let e = c .before .kind-of .ensures in
+    nothing-paired (a .nodes .now) (a .i) (a .claims .now) (λ q. c .match .rest .0 .1 (e ∙ q))
+    (λ q. c .match .rest .1 (e ∙ q))
 
 pub pair-one-spec : {M : Type 1} → statement M
 pair-one-spec =
     tie.close
     (tie.spec
-    kind-word-requires
-    channel-of-requires
-    claim-requires
-    channel-of-requires-2
-    claim-requires-2
-    same-length
+    (λ c κs. search needs)
+    (λ c κs. search needs)
+    claim-in-requires
+    (λ c κs. search needs)
+    claim-out-requires
     returns
-    same-length-2
     returns-2
     returns-3)

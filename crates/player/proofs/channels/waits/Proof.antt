@@ -1,54 +1,52 @@
--- `waits` looks up the other table at the channel of an IN or OUT.
-use mathlib.Core.Path.{sym, _∙_}
+-- `waits` looks up the other leaves on the channel of an IN or OUT.
+use mathlib.Core.Path.{sym, ap, _∙_}
+use mathlib.Core.Bool.{not, Bool·not-not}
+use Rattle.player.proofs.CycleLaws.{entry-node, in-fits, out-fits}
 use Rattle.player.proofs.PairingLaws.{in-waits, out-waits, never-waits}
-use borrow.Author.Needs.{needs}
 use Rattle.player.proofs.channels.waits.Statement.{statement}
 use Rattle.player.proofs.channels.waits.Tie as tie
 
-kind-word-requires : tie.Need-kind-word-requires
-kind-word-requires c κs = search needs
+has-out-requires : tie.Need-has-out-requires
+has-out-requires c κs =
+    let kind = c .before .before in
+    rw (c .channel-of .ensures) (in-fits (kind .before .before .pre) (sym (kind .kind-of .ensures) ∙ c .before .match .keys1))
 
-channel-of-requires : tie.Need-channel-of-requires
-channel-of-requires c κs = search needs
-
-rank-on-requires : tie.Need-rank-on-requires
-rank-on-requires c κs = search needs
-
-channel-of-requires-2 : tie.Need-channel-of-requires-2
-channel-of-requires-2 c κs = search needs
-
-rank-on-requires-2 : tie.Need-rank-on-requires-2
-rank-on-requires-2 c κs = search needs
+has-in-requires : tie.Need-has-in-requires
+has-in-requires c κs =
+    let kind = c .before .before in
+    rw (c .channel-of2 .ensures) (out-fits (kind .before .before .pre) (sym (kind .kind-of .ensures) ∙ c .before .match .keys2))
 
 returns : tie.Need-returns
 returns c =
     let arm = c .before .before in
-    let i = arm .before .before .before .before .before .args .i in
-    let w = sym (arm .before .kind-word .ensures) ∙ arm .match .keys1 in
-    λ entries x p m. rw (c .rank-on .ensures, c .before .channel-of .ensures) (sym (in-waits x i m (p .outputs) w))
+    let i = arm .before .before .before .args .i in
+    let w = sym (arm .before .kind-of .ensures) ∙ arm .match .keys1 in
+    λ x. ap not (rw (c .before .channel-of .ensures) at (c .has-out .ensures)) ∙ Bool·not-not _
+    ∙ sym (in-waits (x .cycle) i (x .isMarked) (x .paired) w)
 
 returns-2 : tie.Need-returns-2
 returns-2 c =
     let arm = c .before .before in
-    let i = arm .before .before .before .before .before .args .i in
-    let w = sym (arm .before .kind-word .ensures) ∙ arm .match .keys2 in
-    λ entries x p m. rw (c .rank-on2 .ensures, c .before .channel-of2 .ensures) (sym (out-waits x i m (p .inputs) w))
+    let i = arm .before .before .before .args .i in
+    let w = sym (arm .before .kind-of .ensures) ∙ arm .match .keys2 in
+    λ x. ap not (rw (c .before .channel-of2 .ensures) at (c .has-in .ensures)) ∙ Bool·not-not _
+    ∙ sym (out-waits (x .cycle) i (x .isMarked) (x .paired) w)
 
 returns-3 : tie.Need-returns-3
 returns-3 c =
-    let e = c .before .kind-word .ensures in
-    λ entries x p m. sym (never-waits x (c .before .before .before .before .before .args .i)
+    let e = c .before .kind-of .ensures in
+    λ x. sym (never-waits (x .cycle) (c .before .before .before .args .i)
     (λ q. c .match .rest .0 .1 (e ∙ q)) (λ q. c .match .rest .1 (e ∙ q)))
 
 pub waits-spec : {M : Type 1} → statement M
 waits-spec =
     tie.close
     (tie.spec
-    kind-word-requires
-    channel-of-requires
-    rank-on-requires
-    channel-of-requires-2
-    rank-on-requires-2
+    (λ c κs. entry-node (c .before .pre))
+    (λ c κs. entry-node (c .before .before .before .pre))
+    has-out-requires
+    (λ c κs. entry-node (c .before .before .before .pre))
+    has-in-requires
     returns
     returns-2
     returns-3)

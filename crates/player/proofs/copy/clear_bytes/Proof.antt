@@ -4,7 +4,7 @@ use Prim.Native.Nat.{ℕ, _-_, _<_}
 use native.Mathlib.Omega.{arith}
 use lib.ListN.{length, replicate, length-replicate}
 use borrow.Author.Needs.{needs}
-use Rattle.program.proofs.TableLaws.{zeros}
+use Rattle.semantics.proofs.Lists.NumberLaws.{zeros}
 use Rattle.player.proofs.CopyLaws.{Copied, none-copied, one-copied, all-copied}
 use Rattle.player.proofs.copy.clear_bytes.Statement.{statement}
 use Rattle.player.proofs.copy.clear_bytes.Tie as tie
@@ -18,24 +18,12 @@ abbrev μ-loop : tie.MeasureT-loop
 loop-holds : tie.Need-loop-holds Inv-loop μ-loop
 loop-holds c = (search needs, none-copied (length-replicate {A = ℕ} _ 0))
 
-slice-write-list : tie.Need-slice-write-list Inv-loop μ-loop
-slice-write-list c = search needs
-
-add-i : tie.Need-add-i Inv-loop μ-loop
-add-i c = search needs
-
-loop-less : tie.Need-loop-less Inv-loop μ-loop
-loop-less c = search needs
-
 loop-again : tie.Need-loop-again Inv-loop μ-loop
 loop-again c =
     let l = c .before .loop in
     let size = length (c .before .before .args .list .now) in
     let inside : l .i < length {A = ℕ} (replicate size 0) = omega (arith, length-replicate {A = ℕ} size 0) in
     (search needs, rw (zeros size (l .i)) at (one-copied (l .inv .1) inside))
-
-same-length : tie.Need-same-length Inv-loop μ-loop
-same-length c = search needs
 
 returns : tie.Need-returns Inv-loop μ-loop
 returns c =
@@ -49,9 +37,9 @@ clear-bytes-spec =
     Inv-loop
     μ-loop
     loop-holds
-    slice-write-list
-    add-i
-    loop-less
+    (λ c. search needs)
+    (λ c. search needs)
+    (λ c. search needs)
     loop-again
-    same-length
+    (λ c. search needs)
     returns)

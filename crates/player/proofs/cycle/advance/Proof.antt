@@ -1,157 +1,96 @@
--- `advance` stores and walks into scratch, and writes the new state back where no zero-time loop was met.
+-- `advance` stores and walks in the lent lists, and takes both back where a zero-time loop was met.
 use mathlib.Core.Path.{_≡_, refl, sym, ap, _∙_, subst}
 use mathlib.Core.List.{List}
 use Prim.Native.Nat.{ℕ}
 use native.Mathlib.Omega.{arith}
+use lib.ListN.{length, getD, replicate, set}
 use borrow.Author.Needs.{needs}
-use Rattle.semantics.specs.State.{State}
-use Rattle.semantics.specs.Cycle.{newValues, walked}
 use Rattle.player.specs.Begin.{stateOf}
-use Rattle.player.specs.Cycles.{Paired, program}
-use Rattle.player.specs.CycleSteps.{CycleFrom, cycleOf}
-use Rattle.player.specs.Running.{TableFilled}
-use Rattle.player.specs.Walks.{walk}
-use Rattle.player.proofs.CycleStepLaws.{filled-fits, ranked-outputs, cycle-walkable, not-advanced, advanced}
+use Rattle.player.specs.Walks.{Walks}
+use Rattle.player.specs.Cycle.{Started, StoreAnswer, cycleOf, programFrom}
+use Rattle.player.proofs.AdvanceLaws.{walking, climbing, Walked, advanced, taken-back}
+use Rattle.player.proofs.AdvanceLaws.{lists-fit, entries-fit, marks-back, counts-back}
 use Rattle.player.proofs.cycle.advance.Statement.{statement}
 use Rattle.player.proofs.cycle.advance.Tie as tie
 
-abbrev begun : tie.After-store-new-arg3 → tie.Start
-begun c = c .before .before .before .before .before .before .before .before
-    .before .before .before .before .before .before .before
+-- the stores are made
+abbrev start : tie.After-store → tie.Start
+start c = c .before .before .before .before .before .before .before .before .before
 
-store-new-requires : tie.Need-store-new-requires
-store-new-requires c κs =
-    let start = begun c in
-    let x = start .pre .0 .0 in
-    let ranked = ranked-outputs x (start .pre .0 .1) in
-    ((ranked, x .fit .values), (start .pre .1 .0, sym (start .pre .1 .1 .0)))
-
-walk-new-requires : tie.Need-walk-new-requires
-walk-new-requires c κs =
-    let stored = c .before .before .before .before .before .before .before in
-    let start = begun (stored .before) in
-    let x = start .pre .0 .0 in
-    let same = start .pre .1 .1 in (
-      (cycleOf x, start .pre .0 .1),
-      (
-        (x .accepted .sizes .exprsFit, filled-fits (start .pre .1 .0) (x .accepted .sizes .exprsFit)),
-        (cycle-walkable x (same .1) (same .2), sym (same .2)),
-      ),
+visit-all-requires : tie.Need-visit-all-requires
+visit-all-requires c κs =
+    let stores = c .before .before .before .before .before in
+    let x = start stores .pre .0 .1 in
+    let s = stores .store .ensures (start stores .pre .0 .0) (start stores .args .counts .now) x in (
+      (stores .store .last .1 .1 .0, walking x s (start stores .pre .1)),
+      ((cycleOf (x .from) (x .active), x .pending .paired), climbing x s),
     )
 
-same-length : tie.Need-same-length
-same-length c = search needs
+-- ---- the walks are done
 
-same-length-2 : tie.Need-same-length-2
-same-length-2 c = search needs
+abbrev stored : tie.After-visit-all → tie.After-store
+stored c = c .before .before .before .before .before .before
 
-same-length-3 : tie.Need-same-length-3
-same-length-3 c = search needs
+abbrev begin : tie.After-visit-all → tie.Start
+begin c = start (stored c)
 
-same-length-4 : tie.Need-same-length-4
-same-length-4 c = search needs
+module _ (c : tie.After-visit-all) (marks : List ℕ)
+    (x : let a = begin c .args in
+    Started (a .exprs .now) (a .nodes .now) (a .values .now) marks (a .counts .now) (a .entries .now) (a .work .now)
+    (a .claims .now)) where
+  abbrev kept-stores : StoreAnswer x (stored c .store .last .1 .1 .0) (stored c .store .last .1 .1 .1 .1 .0)
+  kept-stores = stored c .store .ensures marks (begin c .args .counts .now) x
 
-same-length-5 : tie.Need-same-length-5
-same-length-5 c = search needs
-
-same-length-6 : tie.Need-same-length-6
-same-length-6 c = search needs
-
--- ---- the stores and the walks are done
-abbrev stores : tie.After-walk-new → tie.After-store-new
-stores c = c .before .before .before .before .before .before .before .before
-
-abbrev start : tie.After-walk-new → tie.Start
-start c = begun (stores c .before)
-
-abbrev state : tie.After-walk-new → State
-state c = let a = start c .args in stateOf (a .values .now) (a .marks .now) (a .counts .now)
-
-abbrev newList : tie.After-walk-new → List ℕ
-newList c = stores c .store-new .last .1 .1 .1 .1 .1 .1 .0
-
-module _ (c : tie.After-walk-new)
-    (x : let a = start c .args in
-    CycleFrom (a .exprs .now) (a .nodes .now) (a .values .now) (a .marks .now) (a .counts .now) (a .entries .now))
-    (p : Paired (cycleOf x) (start c .args .ins .now) (start c .args .outs .now)) where
-  stored : newList c ≡ newValues (program (cycleOf x)) (state c) (start c .args .entries .now)
-  stored = stores c .store-new .ensures (ranked-outputs x p) refl (start c .args .counts .now)
-
-  stepped : let new = c .walk-new in
-      walk (new .last .1 .1 .1 .1 .1 .1 .1 .1 .0) (new .last .1 .1 .1 .1 .1 .1 .1 .1 .1 .0) (new .result)
-      ≡ walked (program (cycleOf x)) (state c) (newList c) (start c .args .entries .now)
-  stepped = c .walk-new .ensures .1 (cycleOf x) p refl (start c .args .values .now)
+  walks : Walked x kept-stores (begin c .args .marks .now) (c .visit-all .last .1 .1 .1 .0)
+      (c .visit-all .last .1 .1 .1 .1 .0) (c .visit-all .last .1 .1 .0)
+  walks =
+      c .visit-all .ensures (stored c .store .last .1 .1 .0) (begin c .args .values .now) (begin c .args .counts .now)
+      (cycleOf (x .from) (x .active)) (x .pending .paired) (walking x kept-stores (begin c .pre .1))
 
 returns : tie.Need-returns
 returns c =
-    let done = c .before .before .before .before .before .before .before in (
-      λ z. absurd (omega (arith, z)),
-      λ x p. not-advanced _ _ _ (stored done x p) (stepped done x p) (c .if1 .taken),
-    )
+    let done = c .before .before .before .before .before .before in
+    λ marks x. advanced x (kept-stores done marks x) (begin done .pre .1) (walks done marks x) (c .if1 .taken)
 
-write-back-requires : tie.Need-write-back-requires
-write-back-requires c κs =
-    let asked = c .before .before .before .before .before .before in
-    let done = asked .before .before .before .before .before .before .before in
-    let same = start done .pre .1 .1 in (
-      stores done .store-new .kept .1 .1 .1 .1 .1 .1 .0 ∙ same .0,
-      done .walk-new .kept .1 .1 .1 .1 .1 .1 .1 .1 .0 ∙ same .1,
-      done .walk-new .kept .1 .1 .1 .1 .1 .1 .1 .1 .1 .0 ∙ same .2,
-    )
-
-same-length-7 : tie.Need-same-length-7
-same-length-7 c = search needs
-
-same-length-8 : tie.Need-same-length-8
-same-length-8 c = search needs
-
-same-length-9 : tie.Need-same-length-9
-same-length-9 c = search needs
-
-same-length-10 : tie.Need-same-length-10
-same-length-10 c = search needs
-
-same-length-11 : tie.Need-same-length-11
-same-length-11 c = search needs
-
-same-length-12 : tie.Need-same-length-12
-same-length-12 c = search needs
-
-same-length-13 : tie.Need-same-length-13
-same-length-13 c = search needs
+undo-walks-requires : tie.Need-undo-walks-requires
+undo-walks-requires c κs =
+    let done = c .before .before .before .before .before .before .before .before .before .before .before .before in
+    let x = begin done .pre .0 .1 in
+    let stores = kept-stores done (begin done .pre .0 .0) x in
+    let w = walks done (begin done .pre .0 .0) x in
+    (lists-fit x stores (begin done .pre .1) w, entries-fit x stores (begin done .pre .1) w)
 
 returns-2 : tie.Need-returns-2
 returns-2 c =
-    let written = c .before .before .before .before .before .before in
-    let asked = written .before .before .before .before .before .before .before in
-    let done = asked .before .before .before .before .before .before .before in
-    let table = done .walk-new .last .1 .1 .1 .1 .1 .1 .1 .0 in
-    let sameValues = ap (λ (s : State). s .values) (written .write-back .ensures) in (
-      λ z.
-          subst (λ (v : List ℕ). TableFilled (start done .args .exprs .now) v table) (sym sameValues)
-          (done .walk-new .ensures .0),
-      λ x p. advanced _ _ _ (stored done x p) (stepped done x p) (asked .if1 .left) (written .write-back .ensures),
-    )
+    let undone = c .before .before .before .before in
+    let restored = undone .before .before .before .before .before in
+    let test = restored .before .before in
+    let done = test .before .before .before .before .before .before in
+    λ marks x.
+    let stores = kept-stores done marks x in
+    let clear = begin done .pre .1 in
+    let w = walks done marks x in
+    let back = marks-back x stores clear w (undone .undo-walks .ensures .0) in
+    taken-back x stores clear w (test .if1 .left)
+    (restored .restore-all .ensures (cycleOf (x .from) (x .active)) (begin done .args .values .now)
+    (begin done .args .counts .now) (x .pending) (stores .right))
+    back (counts-back x stores clear w back (undone .undo-walks .kept .1 .1 .1 .0) (undone .undo-walks .ensures .1))
 
 pub advance-spec : {M : Type 1} → statement M
 advance-spec =
     tie.close
     (tie.spec
-    store-new-requires
-    walk-new-requires
-    same-length
-    same-length-2
-    same-length-3
-    same-length-4
-    same-length-5
-    same-length-6
+    (λ c κs. search needs)
+    (λ c. search needs)
+    visit-all-requires
+    (λ c. search needs)
+    (λ c. search needs)
+    (λ c. search needs)
+    (λ c. search needs)
     returns
-    write-back-requires
-    same-length-7
-    same-length-8
-    same-length-9
-    same-length-10
-    same-length-11
-    same-length-12
-    same-length-13
+    (λ c κs. search needs)
+    undo-walks-requires
+    (λ c. search needs)
+    (λ c. search needs)
+    (λ c. search needs)
     returns-2)

@@ -1,190 +1,180 @@
 -- `work_cycles` works one cycle a turn. The invariant: the rules' run from the start is the run of the cycles left,
--- from the lists as they are. Besides, the scratch is fit for the next cycle, and the lists have kept their lengths.
-use mathlib.Core.Path.{_≡_, refl, sym}
-use Prim.Native.Nat.{_+_, _-_}
+-- from the lists as they are. Besides, `work` has what the next cycle asks, no stamp is above the cycles worked, and the
+-- lists have kept their lengths.
+use mathlib.Core.Path.{_≡_, refl, sym, ap, _∙_, subst}
+use mathlib.Core.List.{List}
+use Prim.Native.Nat.{ℕ, _+_, _-_, _≤_, zero-le}
 use native.Mathlib.Omega.{arith}
-use lib.ListN.{length}
+use lib.ListN.{length, getD, drop, set}
 use borrow.Author.Needs.{needs}
-use Rattle.semantics.specs.State.{State}
-use Rattle.semantics.proofs.QuestionLaws.{accepted}
+use Rattle.semantics.specs.Program.{Program}
+use Rattle.semantics.specs.State.{State, markCount}
+use Rattle.semantics.proofs.Lists.QuestionLaws.{accepted}
+use Rattle.semantics.proofs.Order.CycleOrder.{fits-lengths}
 use Rattle.program.specs.Answer.{programOf}
 use Rattle.player.specs.Begin.{stateOf}
-use Rattle.player.specs.Running.{Scratch}
-use Rattle.player.proofs.CycleStepLaws.{filled-fits}
-use Rattle.player.proofs.RunningLaws.{Progress, part-from, first-scratch, none-worked}
+use Rattle.player.specs.Claims.{Aged}
+use Rattle.player.specs.Cycle.{Runnable, Carried, CycleAnswer, WorkedCycle}
+use Rattle.player.proofs.StampLaws.{aged-first, stamp-set, fresh-next}
+use Rattle.player.proofs.RunningLaws.{Progress, part-from, none-worked}
 use Rattle.player.proofs.RunningLaws.{all-worked, no-mark, one-refused, one-worked}
 use Rattle.player.proofs.cycles.work_cycles.Statement.{statement}
 use Rattle.player.proofs.cycles.work_cycles.Tie as tie
 
 abbrev Inv-loop : tie.InvT-loop
-Inv-loop exprs nodes vars chans values₀ marks₀ counts₀ schedule cycles table₀ new-values₀ new-marks₀ new-counts₀ worked₀
-    read₀ values marks counts table new-values new-marks new-counts worked read =
-    Progress (programOf exprs nodes vars chans) cycles (stateOf values₀ marks₀ counts₀) schedule
-    (stateOf values marks counts) worked read
-    × Scratch exprs values table new-values new-marks new-counts
+Inv-loop exprs nodes values₀ marks₀ counts₀ book cycles work₀ claims₀ worked₀ read₀ values marks counts work claims
+    worked read =
+    ((vars chans : ℕ) → Runnable (programOf exprs nodes vars chans) (stateOf values₀ marks₀ counts₀)
+    → Progress (programOf exprs nodes vars chans) cycles (stateOf values₀ marks₀ counts₀) book
+    (stateOf values marks counts) worked read)
+    × (read ≤ length book) × Carried exprs nodes values marks work × Aged claims worked
     × (length values ≡ length values₀) × (length marks ≡ length marks₀) × (length counts ≡ length counts₀)
 
 abbrev μ-loop : tie.MeasureT-loop
-μ-loop exprs nodes vars chans values₀ marks₀ counts₀ schedule cycles table₀ new-values₀ new-marks₀ new-counts₀ worked₀
-    read₀ values marks counts table new-values new-marks new-counts worked read =
+μ-loop exprs nodes values₀ marks₀ counts₀ book cycles work₀ claims₀ worked₀ read₀ values marks counts work claims
+    worked read =
     cycles - worked
 
--- from a cycle back to the count of the marks, from there to the start; and the lists that the cycle leaves
-abbrev counted : tie.After-work-cycle Inv-loop μ-loop → tie.Else1 Inv-loop μ-loop
-counted w = w .before .before .before .before .before .before .before .before .before
+-- ---- before the loop
 
-abbrev start : tie.Else1 Inv-loop μ-loop → tie.Start Inv-loop μ-loop
-start t = t .before .before .before .before .before .before .before .before .before
-    .before .before .before .before .before .before
+abbrev begin : tie.After-fill Inv-loop μ-loop → tie.Start Inv-loop μ-loop
+begin c = c .before .before .before .before .before .before .before .before .before .before .before
 
-abbrev left : tie.After-work-cycle Inv-loop μ-loop → State
-left w =
-    let lists = w .work-cycle .last .1 .1 .1 .1 in
-    stateOf (lists .0) (lists .1 .0) (lists .1 .1 .0)
-
--- the cycle is worked
-next : (w : tie.After-work-cycle Inv-loop μ-loop) → w .work-cycle .result ≡ 0
-    → (let t = counted w in
-    let l = t .before .before .before .before .loop in
-    let given = start t .args in
-    Progress (programOf (given .exprs .now) (given .nodes .now) (given .vars) (given .chans)) (given .cycles)
-    (stateOf (given .values .now) (given .marks .now) (given .counts .now)) (given .schedule .now) (left w)
-    (l .worked + 1) (l .read + t .before .count-marks .result))
-next w z =
-    let t = counted w in
-    let l = t .before .before .before .before .loop in
-    one-worked (start t .pre) (l .inv .0) (t .before .count-marks .ensures)
-    (t .before .before .before .loop-test .taken) (t .if1 .left)
-    (rw (z, part-from (start t .args .schedule .now) (l .read)) at (w .work-cycle .ensures .0))
-
-slice-aggregate-fill-values : tie.Need-slice-aggregate-fill-values Inv-loop μ-loop
-slice-aggregate-fill-values c = search needs
-
-fill-values-requires : tie.Need-fill-values-requires Inv-loop μ-loop
-fill-values-requires c κs = search needs
-
-loop-holds : tie.Need-loop-holds Inv-loop μ-loop
-loop-holds c =
-    let s = c .before .before .before .before .before .before .before .before .before .before in
-    let room = accepted _ (s .pre .accepted) .sizes .exprsFit in
-    (none-worked (s .pre), first-scratch room (c .before .fill-values .ensures), refl, refl, refl)
-
-count-marks-requires : tie.Need-count-marks-requires Inv-loop μ-loop
-count-marks-requires c κs = search needs
-
-stopped-requires : tie.Need-stopped-requires Inv-loop μ-loop
-stopped-requires c κs = search needs
-
-same-length : tie.Need-same-length Inv-loop μ-loop
-same-length c = search needs
-
-same-length-2 : tie.Need-same-length-2 Inv-loop μ-loop
-same-length-2 c = search needs
-
-same-length-3 : tie.Need-same-length-3 Inv-loop μ-loop
-same-length-3 c = search needs
-
+-- no cycle is asked for
 returns : tie.Need-returns Inv-loop μ-loop
 returns c =
-    let t = c .before in
-    let l = t .before .before .before .before in
-    let s = l .before .before .before .before .before .before .before .before .before .before .before in
     let stop = c .stopped .ensures in
-    rw (stop .0, stop .1, stop .2)
-    (no-mark (s .pre) (l .loop .inv .0) (t .before .count-marks .ensures) (t .if1 .taken))
+    λ vars chans r. rw (stop .0, stop .1, stop .2) (all-worked r (none-worked r) (omega (arith, c .before .if1 .taken)))
 
-mul-work-cycle : tie.Need-mul-work-cycle Inv-loop μ-loop
-mul-work-cycle c = search needs
+fill-requires : tie.Need-fill-requires Inv-loop μ-loop
+fill-requires c κs =
+    let s = c .before .before .before .before .before .before .before .before .before .before in
+    let P = programOf (s .args .exprs .now) (s .args .nodes .now) (s .pre .0) (s .pre .1) in
+    let sizes = accepted P (s .pre .2 .accepted) .sizes in
+    let fit = fits-lengths P _ (s .pre .2 .ready .fit) in
+    ((sizes .nodesFit, omega (arith, fit .values, sizes .variablesFit), omega (arith, fit .marks, sizes .nodesFit)), refl)
 
-sub-work-cycle : tie.Need-sub-work-cycle Inv-loop μ-loop
-sub-work-cycle c = search needs
+loop-holds : tie.Need-loop-holds Inv-loop μ-loop
+loop-holds c = (λ vars chans r. none-worked r, zero-le, c .fill .ensures _, aged-first, refl, refl, refl)
 
-part-work-cycle-start : tie.Need-part-work-cycle-start Inv-loop μ-loop
-part-work-cycle-start c = search needs
+-- ---- the marks are counted
 
-part-work-cycle-end : tie.Need-part-work-cycle-end Inv-loop μ-loop
-part-work-cycle-end c = search needs
+abbrev looped : tie.After-tally Inv-loop μ-loop → tie.At-loop Inv-loop μ-loop
+looped c = c .before .before .before
 
-slice-aggregate-work-cycle : tie.Need-slice-aggregate-work-cycle Inv-loop μ-loop
-slice-aggregate-work-cycle c =
-    let l = c .before .before .before .before .before .before .before .before .before .loop in
-    sym (filled-fits (l .inv .1 .tableFilled) (accepted _ (l .inv .0 .runnable .accepted) .sizes .exprsFit) .size)
+abbrev start : tie.After-tally Inv-loop μ-loop → tie.Start Inv-loop μ-loop
+start c = begin (looped c .before)
 
-slice-aggregate-work-cycle-2 : tie.Need-slice-aggregate-work-cycle-2 Inv-loop μ-loop
-slice-aggregate-work-cycle-2 c = search needs
-
-slice-aggregate-work-cycle-3 : tie.Need-slice-aggregate-work-cycle-3 Inv-loop μ-loop
-slice-aggregate-work-cycle-3 c = search needs
-
-slice-aggregate-work-cycle-4 : tie.Need-slice-aggregate-work-cycle-4 Inv-loop μ-loop
-slice-aggregate-work-cycle-4 c = search needs
-
-work-cycle-requires : tie.Need-work-cycle-requires Inv-loop μ-loop
-work-cycle-requires c κs =
-    let t = c .before .before .before .before .before .before .before .before in
-    let l = t .before .before .before .before .loop in
-    (l .inv .0 .runnable, (t .before .count-marks .ensures, l .inv .1))
-
-stopped-requires-2 : tie.Need-stopped-requires-2 Inv-loop μ-loop
-stopped-requires-2 c κs = search needs
-
-same-length-4 : tie.Need-same-length-4 Inv-loop μ-loop
-same-length-4 c = search needs
-
-same-length-5 : tie.Need-same-length-5 Inv-loop μ-loop
-same-length-5 c = search needs
-
-same-length-6 : tie.Need-same-length-6 Inv-loop μ-loop
-same-length-6 c = search needs
+counted : (c : tie.After-tally Inv-loop μ-loop) → c .tally .result ≡ markCount (looped c .loop .marks)
+counted c = c .tally .ensures ∙ looped c .loop .inv .2 .tally
 
 returns-2 : tie.Need-returns-2 Inv-loop μ-loop
 returns-2 c =
-    let w = c .before .before .before .before .before .before .before .before .before .before .before .before in
-    let t = counted w in
-    let l = t .before .before .before .before .loop in
+    let t = c .before .before in
     let stop = c .stopped2 .ensures in
-    rw (stop .0, stop .1, stop .2)
-    (one-refused (start t .pre) (l .inv .0) (t .before .count-marks .ensures)
-    (t .before .before .before .loop-test .taken) (t .if1 .left)
-    (rw (part-from (start t .args .schedule .now) (l .read)) at (w .work-cycle .ensures .0)) (c .before .if2 .taken))
+    λ vars chans r. rw (stop .0, stop .1, stop .2)
+    (no-mark r (looped t .loop .inv .0 vars chans r) (counted t) (c .before .if2 .taken))
 
-add-read : tie.Need-add-read Inv-loop μ-loop
-add-read c =
-    let w = c .before .before .before .before .before .before .before .before .before .before .before in
-    omega (arith, next w (c .if2 .left) .inside, start (counted w) .good .1 .1 .1 .1 .1 .1 .1 .0 .0)
+work-cycle-requires : tie.Need-work-cycle-requires Inv-loop μ-loop
+work-cycle-requires c κs =
+    let t = c .before .before .before .before .before .before .before in
+    let l = looped t .loop in
+    let r = start t .pre in
+    ((r .0, r .1, l .inv .0 (r .0) (r .1) (r .2) .runnable), (l .inv .2, fresh-next (l .inv .3)))
 
-add-worked : tie.Need-add-worked Inv-loop μ-loop
-add-worked c =
-    let t = counted (c .before .before .before .before .before .before .before .before .before .before .before) in
-    omega (arith, t .before .before .before .loop-test .taken, start t .fits .cycles .fits)
+-- ---- the cycle is worked or refused
 
-loop-less : tie.Need-loop-less Inv-loop μ-loop
-loop-less c = search needs
+abbrev called : tie.After-work-cycle Inv-loop μ-loop → tie.After-tally Inv-loop μ-loop
+called w = w .before .before .before .before .before .before .before .before
 
-loop-again : tie.Need-loop-again Inv-loop μ-loop
-loop-again c =
-    let w = c .before .before .before .before .before .before .before .before .before .before .before in
-    (next w (c .if2 .left), w .work-cycle .ensures .1 (c .if2 .left), search needs, search needs, search needs)
+abbrev left : tie.After-work-cycle Inv-loop μ-loop → State
+left w =
+    let lists = w .work-cycle .last .1 .1 in
+    stateOf (lists .0) (lists .1 .0) (lists .1 .1 .0)
 
-stopped-requires-3 : tie.Need-stopped-requires-3 Inv-loop μ-loop
-stopped-requires-3 c κs = search needs
+abbrev program : tie.After-work-cycle Inv-loop μ-loop → ℕ → ℕ → Program
+program w vars chans = let a = start (called w) .args in programOf (a .exprs .now) (a .nodes .now) vars chans
 
-same-length-7 : tie.Need-same-length-7 Inv-loop μ-loop
-same-length-7 c = search needs
+abbrev Asked : tie.After-work-cycle Inv-loop μ-loop → ℕ → ℕ → Type 0
+Asked w vars chans =
+    let a = start (called w) .args in
+    Runnable (program w vars chans) (stateOf (a .values .now) (a .marks .now) (a .counts .now))
 
-same-length-8 : tie.Need-same-length-8 Inv-loop μ-loop
-same-length-8 c = search needs
+worked-cycle : (w : tie.After-work-cycle Inv-loop μ-loop) (vars chans : ℕ) → Asked w vars chans
+    → let l = looped (called w) .loop in
+    WorkedCycle (program w vars chans) (stateOf (l .values) (l .marks) (l .counts))
+    (drop (l .read) (start (called w) .args .book .now)) (set (l .claims) 2048 (l .worked + 1)) (w .work-cycle .result)
+    (left w) (w .work-cycle .last .1 .1 .1 .1 .1 .1 .0) (w .work-cycle .last .1 .1 .1 .1 .1 .1 .1 .0)
+worked-cycle w vars chans r =
+    let l = looped (called w) .loop in
+    rw (part-from (start (called w) .args .book .now) (l .read)) at
+    (w .work-cycle .ensures vars chans (l .inv .0 vars chans r .runnable))
 
-same-length-9 : tie.Need-same-length-9 Inv-loop μ-loop
-same-length-9 c = search needs
+next : (w : tie.After-work-cycle Inv-loop μ-loop) → w .work-cycle .result ≡ 0 → (vars chans : ℕ) → Asked w vars chans
+    → let t = called w in
+    let l = looped t .loop in
+    let a = start t .args in
+    Progress (program w vars chans) (a .cycles) (stateOf (a .values .now) (a .marks .now) (a .counts .now))
+    (a .book .now) (left w) (l .worked + 1) (l .read + t .tally .result)
+next w z vars chans r =
+    let t = called w in
+    let l = looped t .loop in
+    one-worked r (l .inv .0 vars chans r) (counted t) (t .before .before .loop-test .taken)
+    (w .before .before .before .before .before .before .before .if2 .left)
+    (subst
+    (λ (q : ℕ). CycleAnswer (program w vars chans) (stateOf (l .values) (l .marks) (l .counts))
+    (drop (l .read) (start t .args .book .now)) q (left w))
+    z (worked-cycle w vars chans r .answer))
 
 returns-3 : tie.Need-returns-3 Inv-loop μ-loop
 returns-3 c =
-    let l = c .before .before in
-    let s = l .before .before .before .before .before .before .before .before .before .before .before in
+    let w = c .before .before .before .before .before .before .before .before in
+    let t = called w in
     let stop = c .stopped3 .ensures in
-    rw (stop .0, stop .1, stop .2)
-    (all-worked (s .pre) (l .loop .inv .0) (c .before .loop-test .left))
+    λ vars chans r. rw (stop .0, stop .1, stop .2)
+    (one-refused r (looped t .loop .inv .0 vars chans r) (counted t) (t .before .before .loop-test .taken)
+    (w .before .before .before .before .before .before .before .if2 .left)
+    (worked-cycle w vars chans r .answer) (c .before .if3 .taken))
+
+-- the entries read are entries of the book
+read-inside : (c : tie.Else3 Inv-loop μ-loop) → let w = c .before .before .before .before .before .before .before in
+    let t = called w in
+    looped t .loop .read + t .tally .result ≤ length (start t .args .book .now)
+read-inside c =
+    let w = c .before .before .before .before .before .before .before in
+    let r = start (called w) .pre in
+    next w (c .if3 .left) (r .0) (r .1) (r .2) .inside
+
+add-read : tie.Need-add-read Inv-loop μ-loop
+add-read c =
+    let w = c .before .before .before .before .before .before .before in
+    omega (arith, read-inside c, start (called w) .good .1 .1 .1 .1 .1 .0 .0)
+
+add-worked : tie.Need-add-worked Inv-loop μ-loop
+add-worked c =
+    let t = called (c .before .before .before .before .before .before .before) in
+    omega (arith, t .before .before .loop-test .taken, start t .fits .cycles .fits)
+
+loop-again : tie.Need-loop-again Inv-loop μ-loop
+loop-again c =
+    let w = c .before .before .before .before .before .before .before in
+    let t = called w in
+    let r = start t .pre in
+    let done = worked-cycle w (r .0) (r .1) (r .2) in (
+      next w (c .if3 .left),
+      read-inside c,
+      done .carried (c .if3 .left),
+      subst (Aged _) (stamp-set (looped t .loop .inv .3)) (done .aged (c .if3 .left)),
+      search needs,
+      search needs,
+      search needs,
+    )
+
+returns-4 : tie.Need-returns-4 Inv-loop μ-loop
+returns-4 c =
+    let l = c .before .before in
+    let stop = c .stopped4 .ensures in
+    λ vars chans r. rw (stop .0, stop .1, stop .2) (all-worked r (l .loop .inv .0 vars chans r) (c .before .loop-test .left))
 
 pub work-cycles-spec : {M : Type 1} → statement M
 work-cycles-spec =
@@ -192,35 +182,34 @@ work-cycles-spec =
     (tie.spec
     Inv-loop
     μ-loop
-    slice-aggregate-fill-values
-    fill-values-requires
-    loop-holds
-    count-marks-requires
-    stopped-requires
-    same-length
-    same-length-2
-    same-length-3
+    (λ c κs. search needs)
     returns
-    mul-work-cycle
-    sub-work-cycle
-    part-work-cycle-start
-    part-work-cycle-end
-    slice-aggregate-work-cycle
-    slice-aggregate-work-cycle-2
-    slice-aggregate-work-cycle-3
-    slice-aggregate-work-cycle-4
-    work-cycle-requires
-    stopped-requires-2
-    same-length-4
-    same-length-5
-    same-length-6
+    fill-requires
+    loop-holds
+    (λ c κs. search needs)
+    (λ c κs. search needs)
+    (λ c. search needs)
+    (λ c. search needs)
+    (λ c. search needs)
     returns-2
+    (λ c. search needs)
+    (λ c. search needs)
+    (λ c. search needs)
+    (λ c. search needs)
+    (λ c. search needs)
+    (λ c. search needs)
+    work-cycle-requires
+    (λ c κs. search needs)
+    (λ c. search needs)
+    (λ c. search needs)
+    (λ c. search needs)
+    returns-3
     add-read
     add-worked
-    loop-less
+    (λ c. search needs)
     loop-again
-    stopped-requires-3
-    same-length-7
-    same-length-8
-    same-length-9
-    returns-3)
+    (λ c κs. search needs)
+    (λ c. search needs)
+    (λ c. search needs)
+    (λ c. search needs)
+    returns-4)

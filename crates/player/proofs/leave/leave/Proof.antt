@@ -1,100 +1,72 @@
--- `leave` leaves one node in each turn of its loop: leaving the first node with the walk at entry is leaving the node
--- of the turn with the walk of the turn.
-use mathlib.Core.Path.{_≡_, refl, sym, _∙_}
-use Prim.Native.Nat.{_<_}
+-- `leave` climbs one turn at a time.
+use mathlib.Core.List.{List}
+use Prim.Native.Nat.{ℕ, _+_, _-_, _*_, _<_}
 use native.Mathlib.Omega.{arith}
-use borrow.Author.Tests.{not-true, not-false}
-use Rattle.semantics.specs.Program.{nodeCount, parentAt}
+use Rattle.semantics.specs.Program.{nodeCount, endAt}
 use Rattle.semantics.specs.Walk.{leave}
-use Rattle.semantics.proofs.ParentLaws.{IsParent, is-parent}
-use Rattle.semantics.proofs.NodeLaws.{parent-word}
-use Rattle.semantics.proofs.LeaveLaws.{leave-root}
-use Rattle.player.specs.Walks.{walk, tableHolds, Walkable}
-use Rattle.player.proofs.WalkLaws.{walkable-kept}
-use Rattle.player.proofs.LeaveChildLaws.{leave-stops, leave-goes-on}
+use Rattle.player.specs.Walks.{walkIn, holdsIn, Walking}
+use Rattle.player.proofs.UnderwayLaws.{Underway, underway-first, underway-climbing, climb-next, climb-last}
 use borrow.Author.Needs.{needs}
 use Rattle.player.proofs.leave.leave.Statement.{statement}
 use Rattle.player.proofs.leave.leave.Tie as tie
 
+-- leaving the first node comes to leaving the node of the turn
 abbrev Inv-loop : tie.InvT-loop
-Inv-loop nodes table i marks₀ counts₀ looped node₀ met₀ marks counts node met =
-    (node < nodeCount nodes) × Walkable nodes marks counts
-    × (leave (tableHolds table) nodes i (walk marks₀ counts₀ looped)
-    ≡ leave (tableHolds table) nodes node (walk marks counts met))
+Inv-loop nodes exprs work₀ marks₀ counts₀ i node₀ work marks counts node =
+    (node < nodeCount nodes)
+    × ((values : List ℕ) → Walking exprs nodes values marks₀ counts₀ work₀
+    → Underway exprs nodes values work₀ (leave (holdsIn exprs values) nodes i (walkIn marks₀ counts₀ work₀))
+    (leave (holdsIn exprs values) nodes node (walkIn marks counts work)) marks counts work)
 
+-- what falls in each turn (`Turned`)
 abbrev μ-loop : tie.MeasureT-loop
-μ-loop nodes table i marks₀ counts₀ looped node₀ met₀ marks counts node met = node
+μ-loop nodes exprs work₀ marks₀ counts₀ i node₀ work marks counts node = 2048 * (1024 - endAt nodes node) + node
 
 loop-holds : tie.Need-loop-holds Inv-loop μ-loop
 loop-holds c =
-    let s = c .before .before .before .before in
-    (s .pre .1, s .pre .0, refl)
+    (c .before .before .before .before .pre .1 .0, λ values x. underway-first _ x)
 
--- the parent word of a node above 0 is its parent
-at-parent : (c : tie.In-loop Inv-loop μ-loop)
-    → let nodes = c .before .before .before .before .before .before .args .nodes .now in
-    let node = c .before .loop .node in
-    IsParent nodes node node (parentAt nodes node)
-at-parent c =
-    let l = c .before .loop in
-    is-parent _ _ _ (parent-word _ (l .inv .1 .nodesOk) (l .node) (omega arith) (l .inv .0))
-
-parent-word-requires : tie.Need-parent-word-requires Inv-loop μ-loop
-parent-word-requires c κs = search needs
-
-leave-child-requires : tie.Need-leave-child-requires Inv-loop μ-loop
-leave-child-requires c κs =
-    let p = at-parent (c .before .before .before) in
-    let l = c .before .before .before .before .loop in
-    rw (c .before .before .parent-word .ensures) (l .inv .1, (p .lower, l .inv .0, p .covers))
-
-same-length : tie.Need-same-length Inv-loop μ-loop
-same-length c = search needs
-
-same-length-2 : tie.Need-same-length-2 Inv-loop μ-loop
-same-length-2 c = search needs
-
-returns : tie.Need-returns Inv-loop μ-loop
-returns c =
-    let call = c .before .before .before .before .before .before in
-    let turn = call .before .before .before .before in
-    let l = turn .before .loop in
-    let stops = not-true (call .leave-child .result .up) (c .if1 .taken) in
-    let left = rw (call .before .before .before .parent-word .ensures) at (call .leave-child .ensures) in
-    sym (l .inv .2 ∙ leave-stops _ (l .inv .1 .nodesOk) _ (l .node) _ (omega arith) (l .inv .0) _ _ left stops)
+turn-requires : tie.Need-turn-requires Inv-loop μ-loop
+turn-requires c κs =
+    let test = c .before .before .before in
+    let l = test .before .loop in
+    let pre = test .before .before .before .before .before .before .pre in
+    let (values, x) = pre .0 in
+    let u = l .inv .1 values x in
+    ((values, u .walking), (test .loop-test .taken, l .inv .0, underway-climbing u (pre .1 .1)))
 
 loop-less : tie.Need-loop-less Inv-loop μ-loop
 loop-less c =
-    let call = c .before .before .before .before .before .before in
-    let lower = at-parent (call .before .before .before .before) .lower in
-    omega arith
+    let call = c .before .before .before .before in
+    let at = call .before .before .before .before .before in
+    let (values, x) = at .before .before .before .before .before .pre .0 in
+    call .turn .ensures values (at .loop .inv .1 values x .walking) .falls
 
 loop-again : tie.Need-loop-again Inv-loop μ-loop
 loop-again c =
-    let call = c .before .before .before .before .before .before in
-    let word = call .before .before .before .parent-word .ensures in
-    let turn = call .before .before .before .before in
-    let l = turn .before .loop in
-    let lower = at-parent turn .lower in
-    let goesOn = not-false (call .leave-child .result .up) (c .if1 .left) in
-    let left = rw word at (call .leave-child .ensures) in (
-      omega arith,
-      walkable-kept (l .inv .1) (call .leave-child .kept .1 .1 .1 .1 .0) (call .leave-child .kept .1 .1 .1 .1 .1 .0),
-      rw word
-          (l .inv .2 ∙ leave-goes-on _ (l .inv .1 .nodesOk) _ (l .node) _ (omega arith) (l .inv .0) _ _ left goesOn),
+    let call = c .before .before .before .before in
+    let at = call .before .before .before .before .before in
+    let (values₀, x₀) = at .before .before .before .before .before .pre .0 in (
+      call .turn .ensures values₀ (at .loop .inv .1 values₀ x₀ .walking) .isNode,
+      λ values x.
+          let u = at .loop .inv .1 values x in
+          climb-next u (call .turn .ensures values (u .walking)),
     )
 
-same-length-3 : tie.Need-same-length-3 Inv-loop μ-loop
-same-length-3 c = search needs
+same-length : tie.Need-same-length Inv-loop μ-loop
+same-length c =
+    let (values, x) = c .before .before .before .before .before .before .pre .0 in
+    let y = c .before .loop .inv .1 values x .walking in
+    omega arith
 
-same-length-4 : tie.Need-same-length-4 Inv-loop μ-loop
-same-length-4 c = search needs
+same-length-2 : tie.Need-same-length-2 Inv-loop μ-loop
+same-length-2 c =
+    let (values, x) = c .before .before .before .before .before .before .pre .0 in
+    let y = c .before .loop .inv .1 values x .walking in
+    omega arith
 
-returns-2 : tie.Need-returns-2 Inv-loop μ-loop
-returns-2 c =
-    let l = c .before .loop in
-    let root : l .node ≡ 0 = omega arith in
-    sym (l .inv .2 ∙ rw root (leave-root _ (l .inv .1 .nodesOk) _ _))
+returns : tie.Need-returns Inv-loop μ-loop
+returns c = λ values x. climb-last (c .before .loop .inv .1 values x) (omega arith)
 
 pub leave-spec : {M : Type 1} → statement M
 leave-spec =
@@ -103,13 +75,9 @@ leave-spec =
     Inv-loop
     μ-loop
     loop-holds
-    parent-word-requires
-    leave-child-requires
-    same-length
-    same-length-2
-    returns
+    turn-requires
     loop-less
     loop-again
-    same-length-3
-    same-length-4
-    returns-2)
+    same-length
+    same-length-2
+    returns)

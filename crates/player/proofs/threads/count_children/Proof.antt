@@ -7,9 +7,9 @@ use native.Mathlib.Omega.{arith}
 use borrow.Author.Needs.{needs}
 use Rattle.semantics.specs.Tree.{statements}
 use Rattle.semantics.specs.Walk.{childCount}
-use Rattle.semantics.proofs.NodeLaws.{end-after, end-fits}
-use Rattle.semantics.proofs.StatementLaws.{childCount-none, childCount-more}
-use Rattle.semantics.proofs.SiblingLaws.{Sibling, sibling}
+use Rattle.semantics.proofs.Tree.NodeLaws.{end-after, end-fits}
+use Rattle.semantics.proofs.Tree.StatementLaws.{childCount-none, childCount-more}
+use Rattle.semantics.proofs.Tree.SiblingLaws.{Sibling, sibling}
 use Rattle.player.proofs.threads.count_children.Statement.{statement}
 use Rattle.player.proofs.threads.count_children.Tie as tie
 
@@ -20,12 +20,6 @@ Inv-loop nodes h end count₀ child₀ count child =
 
 abbrev μ-loop : tie.MeasureT-loop
 μ-loop nodes h end count₀ child₀ count child = end - child
-
-end-word-requires : tie.Need-end-word-requires Inv-loop μ-loop
-end-word-requires c κs = search needs
-
-add-child : tie.Need-add-child Inv-loop μ-loop
-add-child c = search needs
 
 loop-holds : tie.Need-loop-holds Inv-loop μ-loop
 loop-holds c =
@@ -38,10 +32,13 @@ add-count c =
     let f = end-fits _ (s .pre .0) (s .args .h) (omega arith) in
     omega arith
 
-end-word-requires-2 : tie.Need-end-word-requires-2 Inv-loop μ-loop
-end-word-requires-2 c κs = search needs
+end-of-requires-2 : tie.Need-end-of-requires-2 Inv-loop μ-loop
+end-of-requires-2 c κs =
+    let s = c .before .before .before .before in
+    let f = end-fits _ (s .pre .0) (s .args .h) (omega arith) in
+    omega arith
 
-at-child : (c : tie.After-end-word2 Inv-loop μ-loop)
+at-child : (c : tie.After-end-of2 Inv-loop μ-loop)
     → let s = c .before .before .before .before .before in
     Sibling (s .args .nodes .now) (s .args .h) (c .before .before .loop .child)
 at-child c =
@@ -55,14 +52,14 @@ loop-again : tie.Need-loop-again Inv-loop μ-loop
 loop-again c =
     let s = at-child c in
     let m = childCount-more _ (c .before .before .before .before .before .pre .0) (c .before .before .loop .child)
-    (c .before .before .before .end-word .result) (omega arith) (omega arith) in
-    (omega arith, omega arith, rw (c .end-word2 .ensures) (omega arith))
+    (c .before .before .before .end-of .result) (omega arith) (omega arith) in
+    (omega arith, omega arith, rw (c .end-of2 .ensures) (omega arith))
 
 returns : tie.Need-returns Inv-loop μ-loop
 returns c =
     let n = childCount-none _ (c .before .before .before .before .pre .0) (c .before .loop .child)
-    (c .before .before .end-word .result) (omega arith) in
-    rw (← c .before .before .end-word .ensures) (omega arith)
+    (c .before .before .end-of .result) (omega arith) in
+    rw (← c .before .before .end-of .ensures) (omega arith)
 
 pub count-children-spec : {M : Type 1} → statement M
 count-children-spec =
@@ -70,11 +67,11 @@ count-children-spec =
     (tie.spec
     Inv-loop
     μ-loop
-    end-word-requires
-    add-child
+    (λ c κs. search needs)
+    (λ c. search needs)
     loop-holds
     add-count
-    end-word-requires-2
+    end-of-requires-2
     loop-less
     loop-again
     returns)

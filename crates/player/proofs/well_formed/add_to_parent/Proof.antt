@@ -3,18 +3,9 @@ use Prim.Native.Nat.{_<_}
 use native.Mathlib.Omega.{arith}
 use borrow.Author.Needs.{needs}
 use borrow.Author.Tests.{ltb-true}
-use Rattle.semantics.proofs.Logic.{and-right}
+use Rattle.semantics.proofs.Lists.Logic.{and-right}
 use Rattle.player.proofs.well_formed.add_to_parent.Statement.{statement}
 use Rattle.player.proofs.well_formed.add_to_parent.Tie as tie
-
-parent-word-requires : tie.Need-parent-word-requires
-parent-word-requires c κs = search needs
-
-cast-above : tie.Need-cast-above
-cast-above c = search needs
-
-mul-live : tie.Need-mul-live
-mul-live c = search needs
 
 above-root : (c : tie.After-slice-known2) → 0 < c .before .before .before .before .before .args .i
 above-root c =
@@ -32,9 +23,6 @@ add-live c =
 slice-write-live : tie.Need-slice-write-live
 slice-write-live c = omega (arith, c .before .before .before .before .before .pre .inside (above-root c))
 
-same-length : tie.Need-same-length
-same-length c = search needs
-
 returns : tie.Need-returns
 returns c = rw (c .before .before .if1 .taken, c .before .parent-word .ensures)
 
@@ -45,12 +33,12 @@ pub add-to-parent-spec : {M : Type 1} → statement M
 add-to-parent-spec =
     tie.close
     (tie.spec
-    parent-word-requires
-    cast-above
-    mul-live
+    (λ c κs. search needs)
+    (λ c. search needs)
+    (λ c. search needs)
     slice-read-live
     add-live
     slice-write-live
-    same-length
+    (λ c. search needs)
     returns
     returns-2)

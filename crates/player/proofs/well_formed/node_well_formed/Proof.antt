@@ -6,8 +6,8 @@ use Prim.Native.Nat.{ℕ}
 use native.Mathlib.Omega.{arith}
 use lib.Dec.{eqb, leb}
 use Rattle.semantics.specs.Program.{kindOf}
-use Rattle.semantics.proofs.KindLaws.{one-of-two, kind-leaf, kind-unknown}
-use Rattle.semantics.proofs.WellFormedLocally.{nodeWellFormed}
+use Rattle.semantics.specs.Facts.{nodeWellFormed}
+use Rattle.semantics.proofs.Lists.KindLaws.{one-of-two, kind-leaf, kind-unknown}
 use Rattle.player.proofs.well_formed.node_well_formed.Statement.{statement}
 use Rattle.player.proofs.well_formed.node_well_formed.Tie as tie
 

@@ -7,9 +7,9 @@ use borrow.Author.Needs.{needs}
 use borrow.Author.Tests.{not-true, not-false}
 use Rattle.semantics.specs.Numbers.{below, every}
 use Rattle.semantics.specs.Program.{nodeCount}
-use Rattle.semantics.proofs.Logic.{refuted}
-use Rattle.semantics.proofs.NumberLaws.{every-below, all-below}
-use Rattle.semantics.proofs.WellFormedLocally.{locallyOk}
+use Rattle.semantics.specs.Facts.{locallyOk}
+use Rattle.semantics.proofs.Lists.Logic.{refuted}
+use Rattle.semantics.proofs.Lists.NumberLaws.{every-below, all-below}
 use Rattle.player.proofs.LiveTableLaws.{Passed, pass-start, asks-right, pass-fits, pass-step}
 use Rattle.player.proofs.well_formed.nodes_well_formed.Statement.{statement}
 use Rattle.player.proofs.well_formed.nodes_well_formed.Tie as tie
@@ -31,9 +31,6 @@ sub-i c = omega arith
 cast-node : tie.Need-cast-node Inv-loop μ-loop
 cast-node c = omega arith
 
-kind-word-requires : tie.Need-kind-word-requires Inv-loop μ-loop
-kind-word-requires c κs = search needs
-
 shared-slice-read-mark : tie.Need-shared-slice-read-mark Inv-loop μ-loop
 shared-slice-read-mark c = omega arith
 
@@ -48,9 +45,6 @@ mul-node-well-formed c = omega arith
 
 shared-slice-read-node-well-formed : tie.Need-shared-slice-read-node-well-formed Inv-loop μ-loop
 shared-slice-read-node-well-formed c = omega arith
-
-node-well-formed-requires : tie.Need-node-well-formed-requires Inv-loop μ-loop
-node-well-formed-requires c κs = search needs
 
 -- at node i - 1: the invariant before it is asked
 passed : (c : tie.In-loop Inv-loop μ-loop)
@@ -124,13 +118,13 @@ nodes-well-formed-spec =
     loop-holds
     sub-i
     cast-node
-    kind-word-requires
+    (λ c κs. search needs)
     shared-slice-read-mark
     mul-own
     slice-read-own
     mul-node-well-formed
     shared-slice-read-node-well-formed
-    node-well-formed-requires
+    (λ c κs. search needs)
     same-length
     returns
     add-to-parent-requires

@@ -4,9 +4,6 @@ use Rattle.player.proofs.LiveTableLaws.{table-start, answer-right}
 use Rattle.player.proofs.well_formed.well_formed.Statement.{statement}
 use Rattle.player.proofs.well_formed.well_formed.Tie as tie
 
-slice-aggregate-nodes-well-formed : tie.Need-slice-aggregate-nodes-well-formed
-slice-aggregate-nodes-well-formed c = search needs
-
 nodes-well-formed-requires : tie.Need-nodes-well-formed-requires
 nodes-well-formed-requires c κs =
     let lists = c .before .before .before .before .pre in
@@ -18,4 +15,4 @@ returns c =
 
 pub well-formed-spec : {M : Type 1} → statement M
 well-formed-spec =
-    tie.close (tie.spec slice-aggregate-nodes-well-formed nodes-well-formed-requires returns)
+    tie.close (tie.spec (λ c. search needs) nodes-well-formed-requires returns)

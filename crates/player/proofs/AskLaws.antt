@@ -1,0 +1,138 @@
+-- Questions 7 to 9 as a cycle in code asks them: from what each step found to the rules' answer, and the marks after it.
+use mathlib.Core.Path.{_≡_, refl, sym, ap, _∙_, subst}
+use mathlib.Core.Bool.{Bool, true, false, cond}
+use mathlib.Core.List.{List, [], _∷_}
+use mathlib.Core.Logic.{_≢_}
+use Prim.Native.Nat.{ℕ, _+_, _≤_, _<_}
+use native.Mathlib.Omega.{arith}
+use lib.Dec.{eqb}
+use lib.ListN.{length, getD, take, replicate}
+use lib.Seq.{take-all, length-take-le, getD-take}
+use borrow.Author.Tests.{eq-eqb, ne-eqb}
+use Rattle.semantics.specs.Completion.{channelsFree, targetsApart}
+use Rattle.semantics.specs.Cycle.{areActive}
+use Rattle.player.specs.Begin.{stateOf}
+use Rattle.player.specs.Entries.{crossable, setAll}
+use Rattle.player.specs.Claims.{Aged}
+use Rattle.player.specs.Channels.{Pairing}
+use Rattle.player.specs.Stores.{Storing, RightSides}
+use Rattle.player.specs.Cycle.{CycleFrom, cycleOf, Carried, Started, AskAnswer, programFrom}
+use Rattle.player.proofs.UndoLaws.{formed-bits}
+use Rattle.player.proofs.EntryLaws.{active-crossable, crossable-most, crossable-below, marked-again, all-crossed}
+
+module _ {exprs nodes values marks counts entries : List ℕ} (x : CycleFrom exprs nodes values marks counts entries)
+  where
+    -- ---- question 7
+
+    pub not-active : crossable marks entries < length entries → areActive marks entries ≡ false
+    not-active l =
+        active-crossable marks entries (x .asMany) ∙ ne-eqb (crossable marks entries) (length entries) (λ e. omega arith)
+
+    pub is-active : length entries ≤ crossable marks entries → areActive marks entries ≡ true
+    is-active l =
+        let most = crossable-most marks entries in
+        active-crossable marks entries (x .asMany) ∙ eq-eqb (crossable marks entries) (length entries) (omega arith)
+
+    -- all are crossed out
+    pub cleared : (r : ℕ) → r ≡ crossable marks entries → length entries ≤ r
+        → setAll 0 marks (take r entries) ≡ replicate (length marks) 0
+    cleared r e l =
+        ap (setAll 0 marks) (take-all r entries l)
+        ∙ all-crossed marks entries (is-active (subst (λ (n : ℕ). length entries ≤ n) e l)) (formed-bits (programFrom x) (stateOf values marks counts) (x .formed))
+
+    -- the first r entries, those that are crossed out, are nodes
+    pub part-length : (r : ℕ) → r ≡ crossable marks entries → r ≡ length (take r entries)
+    part-length r e =
+        let most = crossable-most marks entries in
+        sym (length-take-le r entries (omega arith))
+
+    pub part-inside : (r : ℕ) → r ≡ crossable marks entries → (k : ℕ) → k < length (take r entries)
+        → getD (take r entries) k 0 < length marks
+    part-inside r e k l =
+        let same = part-length r e in
+        let here = getD-take r entries k 0 (omega arith) in
+        let inside = crossable-below marks entries k (omega arith) in
+        omega arith
+
+    -- what was crossed out is marked again, of the first r entries or of all
+    pub crossed-back : (r : ℕ) → r ≡ crossable marks entries
+        → setAll 1 (setAll 0 marks (take r entries)) (take r entries) ≡ marks
+    crossed-back r e =
+        subst (λ (n : ℕ). setAll 1 (setAll 0 marks (take n entries)) (take n entries) ≡ marks) (sym e)
+        (marked-again marks entries)
+
+    pub marked-back : (r : ℕ) → r ≡ crossable marks entries → length entries ≤ r
+        → setAll 1 (setAll 0 marks (take r entries)) entries ≡ marks
+    marked-back r e l =
+        subst (λ (es : List ℕ). setAll 1 (setAll 0 marks (take r entries)) es ≡ marks) (take-all r entries l)
+        (crossed-back r e)
+
+    -- the channels are paired
+    abbrev pub storing : (active : areActive marks entries ≡ true) {before claims : List ℕ}
+        → Pairing (cycleOf x active) true before claims → Storing exprs nodes values entries claims
+    storing active p = record {
+      cycle = cycleOf x active;
+      sameExprs = refl;
+      valuesFit = x .fit .values;
+      paired = p .paired refl;
+    }
+
+    module _ {claims₀ : List ℕ} where
+      pub answer-seven : {marks′ work claims : List ℕ} → areActive marks entries ≡ false → marks′ ≡ marks
+          → AskAnswer x claims₀ 7 marks′ work claims
+      answer-seven no-active same = record {
+        asked = sym (rw no-active);
+        kept = λ n. same;
+        cleared = λ z. absurd (omega (arith, z));
+        started = λ z. absurd (omega (arith, z));
+        same = λ z. absurd (omega (arith, z));
+        aged = λ z. absurd (omega (arith, z));
+      }
+
+      module _ (active : areActive marks entries ≡ true) where
+        pub answer-eight : {marks′ work claims : List ℕ} → channelsFree (programFrom x) marks ≡ false → marks′ ≡ marks
+            → AskAnswer x claims₀ 8 marks′ work claims
+        answer-eight taken same = record {
+          asked = sym (rw (active, taken));
+          kept = λ n. same;
+          cleared = λ z. absurd (omega (arith, z));
+          started = λ z. absurd (omega (arith, z));
+          same = λ z. absurd (omega (arith, z));
+          aged = λ z. absurd (omega (arith, z));
+        }
+
+        pub answer-nine : {marks′ work claims : List ℕ} → channelsFree (programFrom x) marks ≡ true
+            → targetsApart (programFrom x) marks ≡ false → marks′ ≡ marks → AskAnswer x claims₀ 9 marks′ work claims
+        answer-nine free clash same = record {
+          asked = sym (rw (active, free, clash));
+          kept = λ n. same;
+          cleared = λ z. absurd (omega (arith, z));
+          started = λ z. absurd (omega (arith, z));
+          same = λ z. absurd (omega (arith, z));
+          aged = λ z. absurd (omega (arith, z));
+        }
+
+        pub answer-none : {marks′ before work claims₁ claims : List ℕ} {apart : Bool}
+            → channelsFree (programFrom x) marks ≡ true → getD claims₁ 2048 0 ≡ getD claims₀ 2048 0
+            → RightSides (cycleOf x active) values before claims₁ apart work claims → apart ≡ true
+            → Carried exprs nodes values marks before → marks′ ≡ replicate (length marks) 0
+            → AskAnswer x claims₀ 0 marks′ work claims
+        answer-none {claims = claims} free stamp sides isApart carried clear =
+            let apart = sym (sides .answer) ∙ isApart in
+            record {
+              asked = sym (rw (active, free, apart));
+              kept = λ n. absurd (n refl);
+              cleared = λ z. clear;
+              started = λ z. record {
+                from = x;
+                active = active;
+                free = free;
+                apart = apart;
+                pending = sides .pending isApart;
+                memo = sides .memo;
+                climbing = λ i l. sides .kept (2307 + i) (omega arith) ∙ carried .climbing i l;
+                unmet = sides .kept 2306 (omega arith) ∙ carried .unmet;
+              };
+              same = λ z. refl;
+              aged = λ z. subst (Aged claims) stamp (sides .aged);
+            }

@@ -1,0 +1,111 @@
+-- What a run starts with in `work`, place after place.
+use mathlib.Core.Path.{_≡_, refl, sym, ap, _∙_, subst}
+use mathlib.Core.List.{List}
+use mathlib.Core.Logic.{_≢_, inl, inr}
+use Prim.Native.Nat.{ℕ, _+_, _≤_, _<_}
+use native.Mathlib.Omega.{arith}
+use lib.ListN.{length, getD, set, replicate, length-set, length-replicate}
+use lib.Seq.{getD-set-same, getD-set-other}
+use Rattle.semantics.specs.Program.{nodeCount, parentAt}
+use Rattle.semantics.specs.State.{markCount}
+use Rattle.semantics.proofs.Lists.Logic.{lt-or-le}
+use Rattle.semantics.proofs.Lists.NumberLaws.{zeros}
+use Rattle.player.specs.Work.{Memo, KeptFrom, ParentsTo}
+use Rattle.player.specs.Cycle.{Carried}
+use Rattle.player.proofs.WorkLaws.{memo-same, memo-set, memo-unworked, tally-set}
+use Rattle.player.proofs.MomentLaws.{unworked-at}
+
+-- ---- the values of the variables
+
+-- The first v values are written over zeros.
+pub record ValuesTo (values work : List ℕ) (v : ℕ) : Type 0 where
+  pub range : (v ≤ length values) × (length values ≤ 256)
+  pub size : length work ≡ 3331
+  pub written : (j : ℕ) → j < v → getD work j 0 ≡ getD values j 0
+  pub zero : (j : ℕ) → v ≤ j → getD work j 0 ≡ 0
+
+pub no-values : (values work : List ℕ) → length values ≤ 256 → work ≡ replicate 3331 0 → ValuesTo values work 0
+no-values values work fit h = record {
+  range = (omega arith, fit);
+  size = ap (λ (l : List ℕ). length l) h ∙ length-replicate {A = ℕ} 3331 0;
+  written = λ j l. absurd (omega arith);
+  zero = λ j l. ap (λ (l : List ℕ). getD l j 0) h ∙ zeros 3331 j;
+}
+
+pub one-value : {values work : List ℕ} {v : ℕ} → ValuesTo values work v → v < length values
+    → ValuesTo values (set work v (getD values v 0)) (v + 1)
+one-value {values} {work} {v} f l =
+    let (low, fit) = f .range in
+    let size = f .size in
+    let word = getD values v 0 in
+    let other : (j : ℕ) → j ≢ v → getD (set work v word) j 0 ≡ getD work j 0 =
+    λ j n. getD-set-other work v j word 0 n in record {
+      range = (omega arith, fit);
+      size = length-set work v word ∙ size;
+      written = λ j u. elim (lt-or-le j v) [
+        | inl m ↦ other j (λ (e : j ≡ v). omega arith) ∙ f .written j m
+        | inr m ↦
+            let e : v ≡ j = omega arith in
+            subst (λ (k : ℕ). getD (set work v word) k 0 ≡ getD values k 0) e
+            (getD-set-same work v word 0 (omega arith))
+      ];
+      zero = λ j u. other j (λ (e : j ≡ v). omega arith) ∙ f .zero j (omega arith);
+    }
+
+-- at the first moment nothing is worked
+pub all-values : (exprs values work : List ℕ) → ValuesTo values work (length values)
+    → Memo exprs values (set work 2304 1)
+all-values exprs values work f =
+    let (low, fit) = f .range in
+    memo-unworked exprs values work (set work 2304 1) fit (f .written)
+    (unworked-at work work 1 (f .size) (λ j l. refl) (λ j l. refl)
+    (λ e l. rw (f .zero (1280 + e) (omega arith)) (omega arith)))
+
+pub values-kept : (values work₀ work : List ℕ) → work₀ ≡ replicate 3331 0 → ValuesTo values work (length values)
+    → KeptFrom 2305 work₀ (set work 2304 1)
+values-kept values work₀ work h f =
+    let (low, fit) = f .range in
+    λ j l. getD-set-other work 2304 j 1 0 (λ (e : j ≡ 2304). omega arith) ∙ f .zero j (omega arith)
+    ∙ sym (ap (λ (l : List ℕ). getD l j 0) h ∙ zeros 3331 j)
+
+-- ---- the parents
+
+pub no-parents : (nodes work : List ℕ) → length work ≡ 3331 → ParentsTo nodes work work 0
+no-parents nodes work size =
+    record { range = omega arith; size = size; parents = λ k l. absurd (omega arith); front = λ j l. refl }
+
+pub one-parent : {nodes before work : List ℕ} {i : ℕ} (parent : ℕ) → parent ≡ parentAt nodes i
+    → ParentsTo nodes before work i → nodeCount nodes ≤ 1024 → i < nodeCount nodes
+    → ParentsTo nodes before (set work (2307 + i) parent) (i + 1)
+one-parent {nodes} {before} {work} {i} parent right f fit l =
+    let size = f .size in
+    let other : (j : ℕ) → j ≢ 2307 + i → getD (set work (2307 + i) parent) j 0 ≡ getD work j 0 =
+    λ j n. getD-set-other work (2307 + i) j parent 0 n in record {
+      range = omega arith;
+      size = length-set work (2307 + i) parent ∙ size;
+      parents = λ k u. elim (lt-or-le k i) [
+        | inl m ↦ other (2307 + k) (λ (e : 2307 + k ≡ 2307 + i). omega arith) ∙ f .parents k m
+        | inr m ↦
+            let e : i ≡ k = omega arith in
+            subst (λ (x : ℕ). getD (set work (2307 + i) parent) (2307 + x) 0 ≡ parentAt nodes x) e
+            (getD-set-same work (2307 + i) parent 0 (omega arith) ∙ right)
+      ];
+      front = λ j u. other j (λ (e : j ≡ 2307 + i). omega arith) ∙ f .front j u;
+    }
+
+-- ---- all of it
+
+pub carried-first : (exprs nodes values marks work₀ work₁ work₂ : List ℕ) → work₀ ≡ replicate 3331 0
+    → Memo exprs values work₁ → KeptFrom 2305 work₀ work₁ → ParentsTo nodes work₁ work₂ (nodeCount nodes)
+    → Carried exprs nodes values marks (set work₂ 2305 (markCount marks))
+carried-first exprs nodes values marks work₀ work₁ work₂ h memo kept parents =
+    let n = markCount marks in
+    let other : (j : ℕ) → j ≢ 2305 → getD (set work₂ 2305 n) j 0 ≡ getD work₂ j 0 =
+    λ j d. getD-set-other work₂ 2305 j n 0 d in record {
+      memo = memo-set exprs values work₂ 2305 n (omega arith)
+          (memo-same exprs values work₁ work₂ (parents .size) (λ j l. parents .front j (omega arith)) memo);
+      tally = tally-set work₂ n (parents .size);
+      climbing = λ i l. other (2307 + i) (λ (d : 2307 + i ≡ 2305). omega arith) ∙ parents .parents i l;
+      unmet = other 2306 (λ d. omega arith) ∙ parents .front 2306 (omega arith) ∙ kept 2306 (omega arith)
+          ∙ ap (λ (l : List ℕ). getD l 2306 0) h ∙ zeros 3331 2306;
+    }

@@ -1,0 +1,22 @@
+-- `before` answers by the test of its contract.
+use borrow.Author.Needs.{needs}
+use borrow.Author.Tests.{eq-eqb, ne-eqb}
+use Rattle.player.proofs.expressions.before.Statement.{statement}
+use Rattle.player.proofs.expressions.before.Tie as tie
+
+returns : tie.Need-returns
+returns c = rw (eq-eqb _ _ (c .if1 .taken))
+
+returns-2 : tie.Need-returns-2
+returns-2 c = rw (ne-eqb _ _ (c .before .if1 .left))
+
+pub before-spec : {M : Type 1} → statement M
+before-spec =
+    tie.close
+    (tie.spec
+    (λ c. search needs)
+    returns
+    (λ c. search needs)
+    (λ c. search needs)
+    (λ c. search needs)
+    returns-2)

@@ -1,0 +1,230 @@
+// The values of single expressions, worked when they are asked for and at most once while no value changes.
+use crate::records::op_of;
+use crate::records::p_of;
+use crate::records::q_of;
+use crate::work::MOMENTS;
+use crate::work::NOW;
+use crate::work::VALUES;
+use crate::work::WORK;
+use program::VarId;
+use program::ops::NUMBER;
+use program::ops::VARIABLE;
+ghost use mathlib.Core.Path.{_≡_};
+ghost use mathlib.Core.Bool.{cond};
+ghost use mathlib.Core.List.{List};
+ghost use Prim.Native.Nat.{ℕ, _+_, _*_, _≤_, _<_};
+ghost use lib.Dec.{eqb};
+ghost use lib.ListN.{length, getD};
+ghost use Rattle.semantics.specs.Program.{exprCount};
+ghost use Rattle.semantics.specs.Expressions.{exprValues};
+ghost use Rattle.player.specs.Work.{Formulas, Memo, Worked, WorkedTo, KeptFrom, Forgotten, Unworked, Handed, noted};
+
+// How many expressions may be worked inside one another. Where it takes more, all up to one of them are worked from left
+// to right.
+const NESTED_MAX: u16 = 48;
+
+// ---- moments
+
+// No expression is worked at any moment above 0.
+fn forget_all(work: &mut [u16; WORK])
+    requires { ⌜ length (now work) ≡ 3331 ⌝ }
+    ensures { λ _. ⌜ Forgotten (now (work .entry)) (now (work .exit)) 2304 ⌝ }
+{
+    let mut i: usize = MOMENTS;
+    while i < NOW {
+        work[i] = 0;
+        i += 1;
+    }
+}
+
+// A moment at which nothing is worked yet follows the present one.
+pub fn next_moment(work: &mut [u16; WORK])
+    requires { ⌜ length (now work) ≡ 3331 ⌝ }
+    requires { ⌜ ((e : ℕ) → e < 1024 → getD (now work) (1280 + e) 0 ≤ getD (now work) 2304 0) ⌝ }
+    ensures { λ _. ⌜ Unworked (now (work .entry)) (now (work .exit)) ⌝ }
+{
+    if work[NOW] < 65535 {
+        work[NOW] += 1;
+    } else {
+        forget_all(work);
+        work[NOW] = 1;
+    }
+}
+
+// ---- values
+
+fn value_of_variable(work: &[u16; WORK], v: VarId) -> u16
+    requires { ⌜ (v .0 < 256) ⌝ }
+    ensures { λ r. ⌜ r ≡ getD (now (work .entry)) (v .0) 0 ⌝ }
+{
+    let at = v.0 as usize;
+    work[at]
+}
+
+// What can be read of an expression without working it: whether its value, and that.
+struct AtHand {
+    known: bool,
+    value: u16,
+}
+
+// The value of expression e where it was worked at the present moment.
+fn worked_before(work: &[u16; WORK], e: u16) -> AtHand
+    requires { ⌜ e < 1024 ⌝ }
+    ensures { λ r. ⌜ r .known ≡ eqb (getD (now (work .entry)) (1280 + e) 0) (getD (now (work .entry)) 2304 0) ⌝ }
+    ensures { λ r. ⌜ r .value ≡ getD (now (work .entry)) (256 + e) 0 ⌝ }
+{
+    let at = e as usize;
+    AtHand {
+        known: work[MOMENTS + at] == work[NOW],
+        value: work[VALUES + at],
+    }
+}
+
+// A number and a variable are always at hand.
+fn at_hand(exprs: &[u16], work: &[u16; WORK], e: u16) -> AtHand
+    requires { ⌜ e < exprCount (now exprs) ⌝ }
+    requires { ⌜ ((values : List ℕ) × Formulas (now exprs) values × Memo (now exprs) values (now work)) ⌝ }
+    ensures { λ r. ⌜ ((values : List ℕ) → Formulas (now (exprs .entry)) values
+        → Memo (now (exprs .entry)) values (now (work .entry))
+        → Handed (now (exprs .entry)) values e (r .known) (r .value)) ⌝ }
+{
+    let p = p_of(exprs, e);
+    match op_of(exprs, e) {
+        NUMBER => AtHand {
+            known: true,
+            value: p,
+        },
+        VARIABLE => AtHand {
+            known: true,
+            value: value_of_variable(work, VarId(p)),
+        },
+        _ => worked_before(work, e),
+    }
+}
+
+// The value of expression e at the present moment.
+pub fn value(exprs: &[u16], work: &mut [u16; WORK], e: u16) -> u16
+    requires { ⌜ e < exprCount (now exprs) ⌝ }
+    requires { ⌜ ((values : List ℕ) × Formulas (now exprs) values × Memo (now exprs) values (now work)) ⌝ }
+    ensures { λ r. ⌜ ((values : List ℕ) → Formulas (now (exprs .entry)) values
+        → Memo (now (exprs .entry)) values (now (work .entry))
+        → Worked (now (exprs .entry)) values (now (work .entry)) (now (work .exit)) e r) ⌝ }
+{
+    let hand = at_hand(exprs, work, e);
+    if hand.known {
+        return hand.value;
+    }
+    worked_value(exprs, work, NESTED_MAX, e)
+}
+
+// The same inside another expression, where so many more may be worked inside one another. It is a function beside
+// `value` so that `worked_value`, which both call, stays one: then an operand that is at hand is read without a call.
+fn operand_value(exprs: &[u16], work: &mut [u16; WORK], nested: u16, e: u16) -> u16
+    requires { ⌜ e < exprCount (now exprs) ⌝ }
+    requires { ⌜ ((values : List ℕ) × Formulas (now exprs) values × Memo (now exprs) values (now work)) ⌝ }
+    ensures { λ r. ⌜ ((values : List ℕ) → Formulas (now (exprs .entry)) values
+        → Memo (now (exprs .entry)) values (now (work .entry))
+        → Worked (now (exprs .entry)) values (now (work .entry)) (now (work .exit)) e r) ⌝ }
+{
+    let hand = at_hand(exprs, work, e);
+    if hand.known {
+        return hand.value;
+    }
+    worked_value(exprs, work, nested, e)
+}
+
+// Works expression e, which has two operands.
+fn worked_value(exprs: &[u16], work: &mut [u16; WORK], nested: u16, e: u16) -> u16
+    requires { ⌜ (e < exprCount (now exprs)) × (2 ≤ getD (now exprs) (3 * e) 0) ⌝ }
+    requires { ⌜ ((values : List ℕ) × Formulas (now exprs) values × Memo (now exprs) values (now work)) ⌝ }
+    ensures { λ r. ⌜ ((values : List ℕ) → Formulas (now (exprs .entry)) values
+        → Memo (now (exprs .entry)) values (now (work .entry))
+        → Worked (now (exprs .entry)) values (now (work .entry)) (now (work .exit)) e r) ⌝ }
+{
+    if nested == 0 {
+        return work_up_to(exprs, work, e);
+    }
+    let x = operand_value(exprs, work, nested - 1, p_of(exprs, e));
+    let y = operand_value(exprs, work, nested - 1, q_of(exprs, e));
+    let value = program::apply_op(op_of(exprs, e), x, y);
+    keep(work, e, value);
+    value
+}
+
+// Expression e has this value at the present moment.
+fn keep(work: &mut [u16; WORK], e: u16, value: u16)
+    requires { ⌜ e < 1024 ⌝ }
+    ensures { λ _. ⌜ now (work .exit) ≡ noted (now (work .entry)) e value ⌝ }
+{
+    let at = e as usize;
+    work[VALUES + at] = value;
+    let now = work[NOW];
+    work[MOMENTS + at] = now;
+}
+
+// Works the expressions up to e from left to right, those that are not worked yet. The value of e.
+fn work_up_to(exprs: &[u16], work: &mut [u16; WORK], e: u16) -> u16
+    requires { ⌜ e < exprCount (now exprs) ⌝ }
+    requires { ⌜ ((values : List ℕ) × Formulas (now exprs) values × Memo (now exprs) values (now work)) ⌝ }
+    ensures { λ r. ⌜ ((values : List ℕ) → Formulas (now (exprs .entry)) values
+        → Memo (now (exprs .entry)) values (now (work .entry))
+        → Worked (now (exprs .entry)) values (now (work .entry)) (now (work .exit)) e r) ⌝ }
+{
+    let mut last: u16 = 0;
+    let mut i: u16 = 0;
+    while i <= e {
+        last = work_next(exprs, work, i, last);
+        i += 1;
+    }
+    last
+}
+
+// Expression i, where all before it are worked, and `last` is the value of the one before it.
+fn work_next(exprs: &[u16], work: &mut [u16; WORK], i: u16, last: u16) -> u16
+    requires { ⌜ i < exprCount (now exprs) ⌝ }
+    requires { ⌜ ((values : List ℕ) × Formulas (now exprs) values × WorkedTo (now exprs) values (now work) i last) ⌝ }
+    ensures { λ r. ⌜ ((values : List ℕ) → Formulas (now (exprs .entry)) values
+        → WorkedTo (now (exprs .entry)) values (now (work .entry)) i last
+        → WorkedTo (now (exprs .entry)) values (now (work .exit)) (i + 1) r) ⌝ }
+    ensures { λ _. ⌜ KeptFrom 2304 (now (work .entry)) (now (work .exit)) ⌝ }
+{
+    let at = i as usize;
+    if work[MOMENTS + at] == work[NOW] {
+        return work[VALUES + at];
+    }
+    let value = next_value(exprs, work, i, last);
+    keep(work, i, value);
+    value
+}
+
+// The value of expression i, likewise.
+fn next_value(exprs: &[u16], work: &[u16; WORK], i: u16, last: u16) -> u16
+    requires { ⌜ i < exprCount (now exprs) ⌝ }
+    requires { ⌜ ((values : List ℕ) × Formulas (now exprs) values × WorkedTo (now exprs) values (now work) i last) ⌝ }
+    ensures { λ r. ⌜ ((values : List ℕ) → Formulas (now (exprs .entry)) values
+        → WorkedTo (now (exprs .entry)) values (now (work .entry)) i last
+        → r ≡ getD (exprValues (now (exprs .entry)) values) i 0) ⌝ }
+{
+    let p = p_of(exprs, i);
+    let op = op_of(exprs, i);
+    match op {
+        NUMBER => p,
+        VARIABLE => value_of_variable(work, VarId(p)),
+        _ => {
+            let y = before(work, q_of(exprs, i), i, last);
+            program::apply_op(op, before(work, p, i, last), y)
+        }
+    }
+}
+
+// The value of an expression p before expression i: that of the one right before it need not be read back.
+fn before(work: &[u16; WORK], p: u16, i: u16, last: u16) -> u16
+    requires { ⌜ (p < i) × (i < 1024) ⌝ }
+    ensures { λ r. ⌜ r ≡ cond (eqb (p + 1) i) last (getD (now (work .entry)) (256 + p) 0) ⌝ }
+{
+    let at = p as usize;
+    if at + 1 == i as usize {
+        return last;
+    }
+    work[VALUES + at]
+}
