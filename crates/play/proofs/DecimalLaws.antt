@@ -12,7 +12,6 @@ use lib.ListN.{length, drop, getD, drop-of-length-le}
 use lib.Seq.{drop-cons}
 use borrow.Author.Tests.{le-leb, lt-leb}
 use Rattle.play.specs.Decimal.{isDigit, areDigits, numberAfter, wordAfter, wordOf}
-use Rattle.play.specs.declared.decimal.Word.{Word}
 use Rattle.play.specs.declared.decimal.Word.the-variants.{Is, Not}
 
 grows : (before : ℕ) (bytes : List ℕ) → before ≤ numberAfter before bytes

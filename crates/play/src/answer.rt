@@ -51,14 +51,14 @@ fn put_refusal(number: u16, item: u16, line: Line) -> Line {
 pub fn print_begin_refused(number: u16, item: u16) {
     let line = put_number(number, item, Line::new()).put(b": begin");
     put_refusal(number, item, line).byte(b'.').end();
-    print_question(number);
+    print_reason(number);
 }
 
 pub fn print_run_refused(number: u16, item: u16, worked: u16) {
     let line = put_number(number, item, Line::new()).put(b": run");
     let line = put_refusal(number, item, line).put(b" after ");
     put_cycles(worked, line).byte(b'.').end();
-    print_question(number);
+    print_reason(number);
 }
 
 fn put_entries(entries: &[u16], line: Line) -> Line {
@@ -82,44 +82,43 @@ pub fn print_entries(entries: &[u16], cycle: u16) {
     put_entries(entries, line).end();
 }
 
-// The question of a number.
-fn print_question(number: u16) {
+// What went wrong, by the number of the question.
+fn print_reason(number: u16) {
     match number {
-        1..=3 => print_program_question(number),
-        4..=6 => print_state_question(number),
-        _ => print_cycle_question(number),
+        1..=3 => print_reason_of_program(number),
+        4..=6 => print_reason_of_state(number),
+        _ => print_reason_of_cycle(number),
     }
 }
 
-fn print_program_question(number: u16) {
-    if number == 1 {
-        say(b"  Are the list lengths whole records and all counts within the limits?");
-        say(b"  N is 1 to 1024, E 0 to 1024, V and C 0 to 256.");
-        return;
-    }
-    if number == 2 {
-        say(b"  Is every expression's op known, its operand in range, its unused word 0?");
-        return;
-    }
-    say(
-        b"  Is every node's kind known, its end from one past itself up to its parent's end, its parent",
-    );
-    say(b"  as defined, its depth and number of children allowed, its unused words 0?");
-}
-
-fn print_state_question(number: u16) {
+// A paper's lists are whole records, so that question 1 is about the counts alone.
+fn print_reason_of_program(number: u16) {
     match number {
-        4 => say(b"  Is every a and b in range of its variables, channels or expressions?"),
-        5 => say(b"  Do the lent state lists have lengths V, N and N?"),
-        _ => say(b"  Is the state well formed?"),
+        1 => say(
+            b"  A count is outside its limits: N is 1 to 1024, E 0 to 1024, V and C 0 to 256.",
+        ),
+        2 => say(b"  Its op is unknown, an operand is out of range, or an unused word is not 0."),
+        _ => say(b"  Its kind, end, parent, depth, number of children or an unused word is wrong."),
     }
 }
 
-fn print_cycle_question(number: u16) {
+fn print_reason_of_state(number: u16) {
     match number {
-        7 => say(b"  Are there m entries left, and are they the marked nodes, each once?"),
-        8 => say(b"  Has no channel two marked IN or two marked OUT?"),
-        9 => say(b"  Do no two completing leaves store to one variable, equal values included?"),
-        _ => say(b"  Does the cycle, or the entering of node 0, meet no zero-time loop?"),
+        4 => say(
+            b"  It refers to a variable, a channel or an expression that the program does not have.",
+        ),
+        5 => say(b"  A list of the state has a wrong length."),
+        _ => say(b"  The state is not well formed."),
+    }
+}
+
+fn print_reason_of_cycle(number: u16) {
+    match number {
+        7 => say(b"  The book's next entries are not the active statements, each once."),
+        8 => say(b"  Two active IN statements, or two active OUT statements, use one channel."),
+        9 => say(b"  Two completing statements store to one variable."),
+        _ => say(
+            b"  A loop would go round without taking a cycle: its condition is true, and its body takes none.",
+        ),
     }
 }

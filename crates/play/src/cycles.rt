@@ -1,16 +1,29 @@
 // Plays a paper: begin, and then run, a cycle at a time, so that each cycle is a row of the table. Runs compose, so
 // these are the cycles of one run.
-use super::answer;
+use super::answer::print_begin_refused;
+use super::answer::print_entries;
+use super::answer::print_run_refused;
+use super::answer::print_worked;
 use super::entries::Order;
 use super::entries::ascending;
 use super::entries::next_entries;
 use super::entries::past;
 use super::line::say;
-use super::lists::as_word;
 use super::lists::copy;
 use super::lists::words_from;
 use super::table;
 use super::table::Columns;
+use program::limits::NODES_MAX;
+use program::limits::VARS_MAX;
+
+// How a program is played: its numbers of variables and channels, the order, the cycles asked and the table's columns.
+pub struct Settings {
+    pub vars: u16,
+    pub chans: u16,
+    pub order: Order,
+    pub cycles: u16,
+    pub columns: Columns,
+}
 
 // What came of a cycle: the number and item of its run, and its number of marks.
 struct Cycle {
@@ -44,27 +57,35 @@ fn stop_at(cycle: Cycle, worked: u16, read: usize) -> Stop {
 fn work_cycle(
     exprs: &[u16],
     nodes: &[u16],
-    vars: u16,
-    chans: u16,
     values: &mut [u16],
     marks: &mut [u8],
     counts: &mut [u16],
     entries: &[u16],
+    settings: Settings,
     cycle: u16,
-    columns: Columns,
 ) -> player::Ran {
-    let mut old_values = [0u16; 256];
-    let mut old_counts = [0u16; 1024];
+    let mut old_values = [0u16; VARS_MAX as usize];
+    let mut old_counts = [0u16; NODES_MAX];
     copy(values, &mut old_values);
     copy(counts, &mut old_counts);
-    let ran = player::run(exprs, nodes, vars, chans, values, marks, counts, entries, 1);
+    let ran = player::run(
+        exprs,
+        nodes,
+        settings.vars,
+        settings.chans,
+        values,
+        marks,
+        counts,
+        entries,
+        1,
+    );
     if ran.number == 0 {
         table::print_row(
             cycle,
             words_from(&old_values, 0, values.len()),
             entries,
             words_from(&old_counts, 0, counts.len()),
-            columns,
+            settings.columns,
         );
     }
     ran
@@ -74,68 +95,57 @@ fn work_cycle(
 fn work_next(
     exprs: &[u16],
     nodes: &[u16],
-    vars: u16,
-    chans: u16,
     values: &mut [u16],
     marks: &mut [u8],
     counts: &mut [u16],
-    order: Order,
     book: &[u16],
+    settings: Settings,
     read: usize,
     cycle: u16,
-    columns: Columns,
 ) -> Cycle {
-    let mut list = [0u16; 1024];
+    let mut list = [0u16; NODES_MAX];
     let m = ascending(marks, &mut list);
     if m == 0 {
         return cycle_of(0, 0, m);
     }
+    let order = settings.order;
     let count = next_entries(order, book, read, marks, m, &mut list);
     let ran = work_cycle(
         exprs,
         nodes,
-        vars,
-        chans,
         values,
         marks,
         counts,
         words_from(&list, 0, count),
+        settings,
         cycle,
-        columns,
     );
     cycle_of(ran.number, ran.item, m)
 }
 
-// Works cycles until as many are worked as were asked, the state is ended, or a cycle is refused.
+// Works cycles up to the number asked, and stops before that at an ended state or a refused cycle.
 fn work_cycles(
     exprs: &[u16],
     nodes: &[u16],
-    vars: u16,
-    chans: u16,
     values: &mut [u16],
     marks: &mut [u8],
     counts: &mut [u16],
-    order: Order,
     book: &[u16],
-    cycles: u16,
-    columns: Columns,
+    settings: Settings,
 ) -> Stop {
     let mut worked: u16 = 0;
     let mut read = 0;
-    while worked < cycles {
+    while worked < settings.cycles {
         let cycle = work_next(
             exprs,
             nodes,
-            vars,
-            chans,
             values,
             marks,
             counts,
-            order,
             book,
+            settings,
             read,
             worked,
-            columns,
         );
         if (cycle.m == 0) | (cycle.number != 0) {
             return stop_at(cycle, worked, read);
@@ -157,9 +167,9 @@ fn print_refused(
 ) {
     table::print_row(stop.worked, values, active, counts, columns);
     say(b"");
-    answer::print_run_refused(stop.number, stop.item, stop.worked);
+    print_run_refused(stop.number, stop.item, stop.worked);
     if stop.number == 7 {
-        answer::print_entries(words_from(book, stop.read, active.len()), stop.worked);
+        print_entries(words_from(book, stop.read, active.len()), stop.worked);
     }
 }
 
@@ -172,7 +182,7 @@ fn print_end(
     book: &[u16],
     columns: Columns,
 ) {
-    let mut list = [0u16; 1024];
+    let mut list = [0u16; NODES_MAX];
     let count = ascending(marks, &mut list);
     let active = words_from(&list, 0, count);
     if stop.number != 0 {
@@ -181,68 +191,46 @@ fn print_end(
     }
     table::print_last_row(values, active, counts, columns);
     say(b"");
-    answer::print_worked(stop.worked, active.len() == 0);
+    print_worked(stop.worked, active.len() == 0);
 }
 
 // Plays from the state that begin has made.
 fn play_begun(
     exprs: &[u16],
     nodes: &[u16],
-    vars: u16,
-    chans: u16,
     values: &mut [u16],
     marks: &mut [u8],
     counts: &mut [u16],
-    order: Order,
     book: &[u16],
-    cycles: u16,
+    settings: Settings,
 ) {
-    let columns = table::columns_of(values.len(), as_word(nodes.len() / 5));
     say(b"Each row is the state before a cycle, with the active statements in the order worked.");
-    table::print_head(values.len(), columns);
-    let stop = work_cycles(
-        exprs,
-        nodes,
-        vars,
-        chans,
-        values,
-        marks,
-        counts,
-        order,
-        book,
-        cycles,
-        columns,
-    );
-    print_end(stop, values, marks, counts, book, columns);
+    table::print_head(values.len(), settings.columns);
+    let stop = work_cycles(exprs, nodes, values, marks, counts, book, settings);
+    print_end(stop, values, marks, counts, book, settings.columns);
 }
 
 pub fn play(
     exprs: &[u16],
     nodes: &[u16],
-    vars: u16,
-    chans: u16,
     values: &mut [u16],
     marks: &mut [u8],
     counts: &mut [u16],
-    order: Order,
     book: &[u16],
-    cycles: u16,
+    settings: Settings,
 ) {
-    let begun = player::begin(exprs, nodes, vars, chans, values, marks, counts);
-    if begun.number != 0 {
-        answer::print_begin_refused(begun.number, begun.item);
-        return;
-    }
-    play_begun(
+    let answer = player::begin(
         exprs,
         nodes,
-        vars,
-        chans,
+        settings.vars,
+        settings.chans,
         values,
         marks,
         counts,
-        order,
-        book,
-        cycles,
     );
+    if answer.number != 0 {
+        print_begin_refused(answer.number, answer.item);
+        return;
+    }
+    play_begun(exprs, nodes, values, marks, counts, book, settings);
 }

@@ -4,6 +4,7 @@ use super::lists::less;
 use super::lists::places_of_bytes;
 use super::lists::reverse;
 use super::lists::words_from;
+use program::limits::NODES_MAX;
 
 // The order in which the active statements of a cycle are worked.
 pub enum Order {
@@ -19,13 +20,13 @@ pub fn ascending(marks: &[u8], list: &mut [u16]) -> usize {
 }
 
 fn descending(marks: &[u8], list: &mut [u16]) -> usize {
-    let mut upward = [0u16; 1024];
+    let mut upward = [0u16; NODES_MAX];
     let count = places_of_bytes(marks, &mut upward);
     reverse(words_from(&upward, 0, count), list);
     count
 }
 
-// The next m entries of the book, or all that are left if fewer.
+// As many of the next m entries as the book has left.
 fn of_book(book: &[u16], read: usize, m: usize, list: &mut [u16]) -> usize {
     let entries = words_from(book, read, m);
     copy(entries, list);

@@ -34,10 +34,16 @@ pub fn no_paper(paper: u16, count: u16) {
         .write(STDERR_FILENO);
 }
 
-// What is wrong with a file.
-pub fn of_file(name: &[u8], text: &[u8]) {
+// A file, its paper or its book has more than the most that there may be.
+pub fn too_long(name: &[u8], thing: &[u8], most: usize, of_what: &[u8]) {
     write_name(name);
-    Line::new().put(b": ").put(text).write(STDERR_FILENO);
+    Line::new()
+        .put(b": the ")
+        .put(thing)
+        .put(b" is too long: it has more than ")
+        .number(most)
+        .put(of_what)
+        .write(STDERR_FILENO);
 }
 
 pub fn unread(name: &[u8]) {

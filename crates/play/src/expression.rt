@@ -2,30 +2,28 @@
 // written to a small depth, and what lies deeper by its name, as e7.
 use super::line::Line;
 use super::line::WIDTH;
-use super::lists::word_at;
+use program::ops::ADD;
+use program::ops::AND;
+use program::ops::BELOW;
+use program::ops::EQUAL;
+use program::ops::MUL;
+use program::ops::NUMBER;
+use program::ops::SUB;
+use program::ops::VARIABLE;
+use program::words::op_word;
+use program::words::p_word;
+use program::words::q_word;
 
 // How deep an expression is written out.
 const DEPTH: u16 = 3;
 
-fn op_word(exprs: &[u16], e: u16) -> u16 {
-    word_at(exprs, 3 * (e as usize))
-}
-
-fn p_word(exprs: &[u16], e: u16) -> u16 {
-    word_at(exprs, 3 * (e as usize) + 1)
-}
-
-fn q_word(exprs: &[u16], e: u16) -> u16 {
-    word_at(exprs, 3 * (e as usize) + 2)
-}
-
 fn sign_of(op: u16) -> u8 {
     match op {
-        2 => b'+',
-        3 => b'-',
-        4 => b'*',
-        5 => b'&',
-        6 => b'=',
+        ADD => b'+',
+        SUB => b'-',
+        MUL => b'*',
+        AND => b'&',
+        EQUAL => b'=',
         _ => b'<',
     }
 }
@@ -33,8 +31,8 @@ fn sign_of(op: u16) -> u8 {
 // How closely an op binds.
 fn rank_of(op: u16) -> u16 {
     match op {
-        2..=3 => 2,
-        4 => 3,
+        ADD..=SUB => 2,
+        MUL => 3,
         _ => 1,
     }
 }
@@ -42,16 +40,16 @@ fn rank_of(op: u16) -> u16 {
 // How closely the operands of an op have to bind to stand without parentheses.
 fn left_rank(op: u16) -> u16 {
     match op {
-        2..=3 | 6..=7 => 2,
-        4 => 3,
+        ADD..=SUB | EQUAL..=BELOW => 2,
+        MUL => 3,
         _ => 4,
     }
 }
 
 fn right_rank(op: u16) -> u16 {
     match op {
-        2..=3 => 3,
-        6..=7 => 2,
+        ADD..=SUB => 3,
+        EQUAL..=BELOW => 2,
         _ => 4,
     }
 }
@@ -84,7 +82,7 @@ fn put_named(e: u16, named: &mut [u8], line: Line) -> Line {
 // Whether an expression has operands that can be written out: there is such an expression, and its op is known.
 fn has_operands(exprs: &[u16], e: u16) -> bool {
     let op = op_word(exprs, e);
-    ((e as usize) < exprs.len() / 3) & (2 <= op) & (op <= 7)
+    ((e as usize) < exprs.len() / 3) & (ADD <= op) & (op <= BELOW)
 }
 
 // An expression without its operands: a number, a variable, or a name.
@@ -93,9 +91,9 @@ fn put_atom(exprs: &[u16], e: u16, named: &mut [u8], line: Line) -> Line {
         return line.name(b'e', e);
     }
     match op_word(exprs, e) {
-        0 => line.word(p_word(exprs, e)),
-        1 => line.name(b'v', p_word(exprs, e)),
-        2..=7 => put_named(e, named, line),
+        NUMBER => line.word(p_word(exprs, e)),
+        VARIABLE => line.name(b'v', p_word(exprs, e)),
+        ADD..=BELOW => put_named(e, named, line),
         _ => line.put(b"op ").word(op_word(exprs, e)),
     }
 }

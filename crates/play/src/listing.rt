@@ -4,29 +4,28 @@ use super::line::Line;
 use super::lists::byte_at;
 use super::lists::less;
 use super::lists::set_word;
-use super::lists::word_at;
+use program::kinds::ASG;
+use program::kinds::DLY;
+use program::kinds::IF;
+use program::kinds::IN;
+use program::kinds::OUT;
+use program::kinds::PAR;
+use program::kinds::SEQ;
+use program::kinds::WHL;
+use program::limits::DEPTH_MAX;
+use program::limits::EXPRS_MAX;
+use program::limits::NODES_MAX;
+use program::words::a_word;
+use program::words::b_word;
+use program::words::kind_word;
+use program::words::parent_word;
+use program::words::word_at;
 
 // Where the statements stand, after the numbers of their nodes.
 const START: usize = 6;
 
-// The deepest node that is indented as such.
-const DEEPEST: u16 = 31;
-
-fn kind_word(nodes: &[u16], i: u16) -> u16 {
-    word_at(nodes, 5 * (i as usize))
-}
-
-fn parent_word(nodes: &[u16], i: u16) -> u16 {
-    word_at(nodes, 5 * (i as usize) + 1)
-}
-
-fn a_word(nodes: &[u16], i: u16) -> u16 {
-    word_at(nodes, 5 * (i as usize) + 3)
-}
-
-fn b_word(nodes: &[u16], i: u16) -> u16 {
-    word_at(nodes, 5 * (i as usize) + 4)
-}
+// The most nodes that stand above a node, as far as the listing indents.
+const DEEPEST: u16 = DEPTH_MAX - 1;
 
 // How many nodes stand above a node, by the depths of those before it.
 fn depth_of(nodes: &[u16], i: u16, depths: &[u16]) -> u16 {
@@ -40,18 +39,18 @@ fn depth_of(nodes: &[u16], i: u16, depths: &[u16]) -> u16 {
 
 fn put_leaf(exprs: &[u16], kind: u16, a: u16, b: u16, named: &mut [u8], line: Line) -> Line {
     match kind {
-        3 => put_expression(exprs, b, named, line.name(b'v', a).put(b" := ")),
-        4 => line.put(b"IN ").name(b'c', a).byte(b' ').name(b'v', b),
-        5 => put_expression(exprs, b, named, line.put(b"OUT ").name(b'c', a).byte(b' ')),
+        ASG => put_expression(exprs, b, named, line.name(b'v', a).put(b" := ")),
+        IN => line.put(b"IN ").name(b'c', a).byte(b' ').name(b'v', b),
+        OUT => put_expression(exprs, b, named, line.put(b"OUT ").name(b'c', a).byte(b' ')),
         _ => line.put(b"DLY"),
     }
 }
 
 fn put_branch(exprs: &[u16], kind: u16, a: u16, named: &mut [u8], line: Line) -> Line {
     match kind {
-        1 => line.put(b"SEQ"),
-        2 => line.put(b"PAR"),
-        6 => put_expression(exprs, a, named, line.put(b"IF ")),
+        SEQ => line.put(b"SEQ"),
+        PAR => line.put(b"PAR"),
+        IF => put_expression(exprs, a, named, line.put(b"IF ")),
         _ => put_expression(exprs, a, named, line.put(b"WHL ")),
     }
 }
@@ -60,8 +59,8 @@ fn put_statement(exprs: &[u16], nodes: &[u16], i: u16, named: &mut [u8], line: L
     let kind = kind_word(nodes, i);
     let a = a_word(nodes, i);
     match kind {
-        3..=5 | 8 => put_leaf(exprs, kind, a, b_word(nodes, i), named, line),
-        1..=2 | 6..=7 => put_branch(exprs, kind, a, named, line),
+        ASG..=OUT | DLY => put_leaf(exprs, kind, a, b_word(nodes, i), named, line),
+        SEQ..=PAR | IF..=WHL => put_branch(exprs, kind, a, named, line),
         _ => line.put(b"kind ").word(kind),
     }
 }
@@ -79,7 +78,7 @@ fn print_else(nodes: &[u16], i: u16, depth: u16) {
     if i - parent == 1 {
         return;
     }
-    if kind_word(nodes, parent) == 6 {
+    if kind_word(nodes, parent) == IF {
         Line::new()
             .pad_to(less(indent(depth), 2))
             .put(b"ELSE")
@@ -120,8 +119,8 @@ fn print_named(exprs: &[u16], count: u16, named: &mut [u8]) {
 }
 
 pub fn print(exprs: &[u16], nodes: &[u16], expr_count: u16, node_count: u16) {
-    let mut depths = [0u16; 1024];
-    let mut named = [0u8; 1024];
+    let mut depths = [0u16; NODES_MAX];
+    let mut named = [0u8; EXPRS_MAX];
     print_nodes(exprs, nodes, node_count, &mut depths, &mut named);
     print_named(exprs, expr_count, &mut named);
 }

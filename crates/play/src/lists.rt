@@ -1,11 +1,6 @@
-// Words and parts of lists. What lies outside a list reads as 0 or as nothing, so that no reader asks anything of its
-// caller.
-
+// Bytes and parts of lists. What lies outside a list reads as 0 or as nothing, so that no reader asks anything of its
+// caller. `program::words` reads single words in the same way.
 ghost use Prim.Native.Nat.{_≤_};
-
-pub fn word_at(list: &[u16], at: usize) -> u16 {
-    if at < list.len() { list[at] } else { 0 }
-}
 
 pub fn byte_at(list: &[u8], at: usize) -> u8 {
     if at < list.len() { list[at] } else { 0 }

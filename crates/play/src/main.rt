@@ -13,7 +13,7 @@ mod expression; // an expression in infix
 mod file; // reading a file
 mod line; // a line of output
 mod listing; // the program as a listing
-mod lists; // words and parts of lists
+mod lists; // bytes and parts of lists
 mod paper; // a paper as a list of words
 mod papers; // the texts of the papers that come with the program
 mod source; // papers by number and from files

@@ -1,6 +1,7 @@
 // A paper, as a list of words: E, N, V and C, the expressions, the nodes, the values, the cycles asked, and the entries
 // of the book.
 use super::cycles;
+use super::cycles::Settings;
 use super::entries::Order;
 use super::errors;
 use super::line::Line;
@@ -9,14 +10,18 @@ use super::listing;
 use super::lists::copy;
 use super::lists::least;
 use super::lists::less;
-use super::lists::word_at;
 use super::lists::words_from;
+use super::table::columns_of;
+use program::limits::EXPRS_MAX;
+use program::limits::NODES_MAX;
+use program::limits::VARS_MAX;
+use program::words::word_at;
 
 // The longest book.
 pub const BOOK: usize = 4096;
 
-// The longest paper: the longest lists and the longest book.
-pub const WORDS: usize = 12641;
+// The longest paper: E, N, V and C, the longest lists, the cycles asked and the longest book.
+pub const WORDS: usize = 4 + 3 * EXPRS_MAX + 5 * NODES_MAX + (VARS_MAX as usize) + 1 + BOOK;
 
 // The order that is asked for.
 pub enum Asked {
@@ -100,34 +105,33 @@ fn print_head(heading: Line, words: &[u16], cycles: u16, order: Order) {
     say(b"");
 }
 
+fn settings_of(words: &[u16], order: Order, cycles: u16) -> Settings {
+    let vars = word_at(words, 2);
+    Settings {
+        vars,
+        chans: word_at(words, 3),
+        order,
+        cycles,
+        columns: columns_of(vars as usize, word_at(words, 1)),
+    }
+}
+
 // Plays a program on state lists of its own.
-fn play_on_lists(
-    exprs: &[u16],
-    nodes: &[u16],
-    vars: u16,
-    chans: u16,
-    given: &[u16],
-    order: Order,
-    book: &[u16],
-    cycles: u16,
-) {
-    let mut values = [0u16; 256];
-    let mut marks = [0u8; 1024];
-    let mut counts = [0u16; 1024];
+fn play_on_lists(exprs: &[u16], nodes: &[u16], given: &[u16], book: &[u16], settings: Settings) {
+    let mut values = [0u16; VARS_MAX as usize];
+    let mut marks = [0u8; NODES_MAX];
+    let mut counts = [0u16; NODES_MAX];
     copy(given, &mut values);
-    let v = least(given.len(), 256);
-    let n = least(nodes.len() / 5, 1024);
+    let v = least(given.len(), VARS_MAX as usize);
+    let n = least(nodes.len() / 5, NODES_MAX);
     cycles::play(
         exprs,
         nodes,
-        vars,
-        chans,
         &mut values[0..v],
         &mut marks[0..n],
         &mut counts[0..n],
-        order,
         book,
-        cycles,
+        settings,
     );
 }
 
@@ -138,10 +142,7 @@ fn is_whole(name: &[u8], words: &[u16], lists: Lists) -> bool {
         return false;
     }
     if BOOK < less(words.len(), lists.book) {
-        errors::of_file(
-            name,
-            b"the paper is too long: its book has more than 4096 entries.",
-        );
+        errors::too_long(name, b"book", BOOK, b" entries.");
         return false;
     }
     true
@@ -162,14 +163,6 @@ pub fn play<'a>(name: &[u8], heading: Line, words: &'a [u16], asked: Asked, give
     print_head(heading, words, cycles, order);
     listing::print(exprs, nodes, word_at(words, 0), word_at(words, 1));
     say(b"");
-    play_on_lists(
-        exprs,
-        nodes,
-        word_at(words, 2),
-        word_at(words, 3),
-        values,
-        order,
-        book_of(asked, own, given),
-        cycles,
-    );
+    let settings = settings_of(words, order, cycles);
+    play_on_lists(exprs, nodes, values, book_of(asked, own, given), settings);
 }

@@ -1,4 +1,5 @@
-// The papers that come with the program: each is a text as a file has it, whose first line is its title.
+// The papers that come with the program: each is a text as a file has it, whose first line is its title. Kinds and ops
+// are numbers there (`program::kinds`, `program::ops`), and 65535 is the parent of node 0.
 use super::lists::fill;
 
 // How many papers there are. The first is played where none is asked for.

@@ -16,6 +16,12 @@ use super::paper;
 use super::paper::Asked;
 use super::papers;
 
+// The longest file.
+const BYTES: usize = 131071;
+
+// The longest text of a paper that comes with the program.
+const TEXT: usize = 1024;
+
 // The title of a paper: its first line, if that is a comment.
 fn put_title(text: &[u8], before: &[u8], line: Line) -> Line {
     if byte_at(text, 0) != b'#' {
@@ -38,17 +44,14 @@ fn play_text(name: &[u8], heading: Line, text: &[u8], asked: Asked, book: &[u16]
     match read_words(text, &mut words) {
         Reading::Words(n) => paper::play(name, heading, words_from(&words, 0, n), asked, book),
         Reading::NotAWord(at) => tell_fault(name, text, at),
-        Reading::TooMany => errors::of_file(
-            name,
-            b"the paper is too long: it has more than 12641 words.",
-        ),
+        Reading::TooMany => errors::too_long(name, b"paper", paper::WORDS, b" words."),
     }
 }
 
 // ---- the papers that come with the program
 
 pub fn play_paper(paper: u16, asked: Asked, book: &[u16]) {
-    let mut buffer = [0u8; 1024];
+    let mut buffer = [0u8; TEXT];
     let n = papers::text_of(paper, &mut buffer);
     let text = bytes_between(&buffer, 0, n);
     let heading = put_title(text, b": ", Line::new().put(b"Paper ").word(paper));
@@ -64,7 +67,7 @@ pub fn play_numbered(paper: u16, asked: Asked, book: &[u16]) {
 }
 
 fn print_paper(paper: u16) {
-    let mut buffer = [0u8; 1024];
+    let mut buffer = [0u8; TEXT];
     let n = papers::text_of(paper, &mut buffer);
     let line = Line::new().word_to(4, paper);
     put_title(bytes_between(&buffer, 0, n), b"  ", line).end();
@@ -91,15 +94,12 @@ pub fn print_papers() {
 // ---- a paper from a file
 
 pub fn play_file(name: &[u8], asked: Asked, book: &[u16]) {
-    let mut buffer = [0u8; 131072];
+    let mut buffer = [0u8; BYTES + 1];
     let Contents::Bytes(n) = file::read(name, &mut buffer) else {
         return;
     };
     if buffer.len() <= n {
-        errors::of_file(
-            name,
-            b"the file is too long: it has more than 131071 bytes.",
-        );
+        errors::too_long(name, b"file", BYTES, b" bytes.");
         return;
     }
     let text = bytes_between(&buffer, 0, n);

@@ -7,20 +7,21 @@ use super::lists::least;
 use super::lists::less;
 use super::lists::most;
 use super::lists::places_of_words;
-use super::lists::word_at;
 use super::lists::words_from;
+use program::limits::NODES_MAX;
+use program::words::word_at;
 ghost use Prim.Native.Nat.{_≤_};
 
 // Where the values start, and how wide the column of one is.
-const VALUES: usize = 5;
+const VALUES_AT: usize = 5;
 
-const VALUE: usize = 6;
+const VALUE_WIDTH: usize = 6;
 
 // The most lines of a row that list statements or PARs.
 const LINES: usize = 8;
 
 // The room that a PAR takes.
-const PAR: usize = 16;
+const PAR_WIDTH: usize = 16;
 
 // How many variables, active statements and PARs a line has, and where the last two start.
 pub struct Columns {
@@ -53,13 +54,13 @@ pub fn columns_of(vars: usize, node_count: u16) -> Columns {
     let values = least(vars, 8);
     let digits = digits_of(node_count);
     let active = active_of_line(digits);
-    let active_at = VALUES + VALUE * values + 3;
+    let active_at = VALUES_AT + VALUE_WIDTH * values + 3;
     let threads_at = active_at + active_width(digits) + 1;
     Columns {
         values,
         active,
         active_at,
-        threads: most(1, less(WIDTH + 2, threads_at) / PAR),
+        threads: most(1, less(WIDTH + 2, threads_at) / PAR_WIDTH),
         threads_at,
     }
 }
@@ -68,7 +69,7 @@ pub fn columns_of(vars: usize, node_count: u16) -> Columns {
 
 // Where the column of the variable at a place of the line ends.
 fn value_end(place: usize) -> usize {
-    VALUES + VALUE + VALUE * least(place, 8)
+    VALUES_AT + VALUE_WIDTH + VALUE_WIDTH * least(place, 8)
 }
 
 fn put_values(values: &[u16], line: Line) -> Line {
@@ -230,7 +231,7 @@ fn print_further_lines(
 
 // A state, in a line in which its label stands already.
 fn print_state(values: &[u16], active: &[u16], counts: &[u16], columns: Columns, line: Line) {
-    let mut list = [0u16; 1024];
+    let mut list = [0u16; NODES_MAX];
     let par_count = places_of_words(counts, &mut list);
     let pars = words_from(&list, 0, par_count);
     let of_lists = most(
@@ -245,7 +246,7 @@ fn print_state(values: &[u16], active: &[u16], counts: &[u16], columns: Columns,
 
 // The state before a cycle.
 pub fn print_row(cycle: u16, values: &[u16], active: &[u16], counts: &[u16], columns: Columns) {
-    let line = Line::new().word_to(VALUES, cycle);
+    let line = Line::new().word_to(VALUES_AT, cycle);
     print_state(values, active, counts, columns, line);
 }
 

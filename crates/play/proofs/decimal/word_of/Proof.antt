@@ -20,9 +20,6 @@ returns c = none _ (c .if1 .taken)
 loop-holds : tie.Need-loop-holds Inv-loop μ-loop
 loop-holds c = start (now (c .before .before .args .digits)) (pos-of-ne-zero (c .if1 .left))
 
-shared-slice-read-digit : tie.Need-shared-slice-read-digit Inv-loop μ-loop
-shared-slice-read-digit c = search needs
-
 returns-2 : tie.Need-returns-2 Inv-loop μ-loop
 returns-2 c =
     let at-loop = c .before .before in
@@ -33,15 +30,6 @@ returns-3 c =
     let at-loop = c .before .before .before in
     above _ _ _ (at-loop .before .loop .inv) (at-loop .loop-test .taken) (c .if3 .taken)
 
-mul-value : tie.Need-mul-value Inv-loop μ-loop
-mul-value c = search needs
-
-widened-requires : tie.Need-widened-requires Inv-loop μ-loop
-widened-requires c κs = search needs
-
-add-value : tie.Need-add-value Inv-loop μ-loop
-add-value c = search needs
-
 returns-4 : tie.Need-returns-4 Inv-loop μ-loop
 returns-4 c =
     let at-digit = c .before .before in
@@ -49,12 +37,6 @@ returns-4 c =
     past-words _ _ _ (at-loop .before .loop .inv) (at-loop .loop-test .taken) (at-digit .before .if2 .left)
     (at-digit .if3 .left)
     (rw (c .before .widened .ensures) at (c .if4 .taken))
-
-add-i : tie.Need-add-i Inv-loop μ-loop
-add-i c = search needs
-
-loop-less : tie.Need-loop-less Inv-loop μ-loop
-loop-less c = search needs
 
 loop-again : tie.Need-loop-again Inv-loop μ-loop
 loop-again c =
@@ -64,9 +46,6 @@ loop-again c =
     (further _ _ _ (at-loop .before .loop .inv) (at-loop .loop-test .taken) (at-digit .before .if2 .left)
     (at-digit .if3 .left)
     (rw (c .before .widened .ensures) at (c .if4 .left)))
-
-cast-t13 : tie.Need-cast-t13 Inv-loop μ-loop
-cast-t13 c = search needs
 
 returns-5 : tie.Need-returns-5 Inv-loop μ-loop
 returns-5 c = whole _ _ _ (c .before .loop .inv) (c .loop-test .left)
@@ -79,15 +58,15 @@ word-of-spec =
     μ-loop
     returns
     loop-holds
-    shared-slice-read-digit
+    (λ c. search needs)
     returns-2
     returns-3
-    mul-value
-    widened-requires
-    add-value
+    (λ c. search needs)
+    (λ c κs. search needs)
+    (λ c. search needs)
     returns-4
-    add-i
-    loop-less
+    (λ c. search needs)
+    (λ c. search needs)
     loop-again
-    cast-t13
+    (λ c. search needs)
     returns-5)

@@ -5,12 +5,6 @@ use borrow.Author.Needs.{needs}
 use Rattle.play.proofs.table.first_of_line.Statement.{statement}
 use Rattle.play.proofs.table.first_of_line.Tie as tie
 
-least-requires : tie.Need-least-requires
-least-requires c κs = search needs
-
-least-requires-2 : tie.Need-least-requires-2
-least-requires-2 c κs = search needs
-
 mul-result : tie.Need-mul-result
 mul-result c =
     record { fits = lt-of-le-of-lt (mul-le-mul (c .before .least .ensures .1) (c .least2 .ensures .1)) (lit< tt) }
@@ -19,4 +13,4 @@ returns : tie.Need-returns
 returns c = mul-le-mul (c .before .least .ensures .1) (c .least2 .ensures .1)
 
 pub first-of-line-spec : {M : Type 1} → statement M
-first-of-line-spec = tie.close (tie.spec least-requires least-requires-2 mul-result returns)
+first-of-line-spec = tie.close (tie.spec (λ c κs. search needs) (λ c κs. search needs) mul-result returns)
