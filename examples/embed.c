@@ -3,38 +3,50 @@
  *   rt staticlib player
  *   gcc -Iinclude examples/embed.c target/staticlib/libplayer.a -o target/embed && target/embed
  */
-#include <inttypes.h>
 #include <stdio.h>
 
 #include "player.h"
 
-enum { VARS = 2, NODES = 3 };
+enum { EXPRS = 2, NODES = 3, VARS = 2, CHANS = 0, CYCLES = 5, ENTRIES = 2 };
 
-/* op, p, q: variable 0, variable 1 */
-static const uint16_t exprs[] = {1, 0, 0, 1, 1, 0};
+/* op, p, q */
+static const uint16_t exprs[3 * EXPRS] = {
+    PLAYER_OP_VARIABLE, 0, 0, /* expression 0: v0 */
+    PLAYER_OP_VARIABLE, 1, 0  /* expression 1: v1 */
+};
 
-/* kind, parent, end, a, b: PAR, v0 gets expression 1, v1 gets expression 0 */
-static const uint16_t nodes[] = {2, 65535, 3, 0, 0, 3, 0, 2, 0, 1, 3, 0, 3, 1, 0};
+/* kind, parent, end, a, b */
+static const uint16_t nodes[5 * NODES] = {
+    PLAYER_KIND_PAR, PLAYER_NO_PARENT, 3, 0, 0, /* node 0 */
+    PLAYER_KIND_ASG, 0, 2, 0, 1,                /* node 1: v0 gets expression 1 */
+    PLAYER_KIND_ASG, 0, 3, 1, 0                 /* node 2: v1 gets expression 0 */
+};
 
-static void play(const uint16_t book[2])
+static void play(const uint16_t book[ENTRIES])
 {
     uint16_t values[VARS] = {3, 7};
     uint8_t marks[NODES];
     uint16_t counts[NODES];
+    uint32_t begun;
+    uint64_t ran;
 
-    uint32_t begun = player_begin(exprs, 6, nodes, 15, VARS, 0, values, VARS, marks, NODES, counts, NODES);
-    if (begun != PLAYER_OK) {
-        printf("begin: question %" PRIu32 "\n", begun & 0xffff);
+    begun = player_begin(exprs, 3 * EXPRS, nodes, 5 * NODES, VARS, CHANS, values, VARS, marks, NODES, counts, NODES);
+    if (PLAYER_NUMBER(begun) != PLAYER_OK) {
+        printf("begin: number %d\n", PLAYER_NUMBER(begun));
         return;
     }
-    uint64_t run = player_run(exprs, 6, nodes, 15, VARS, 0, values, VARS, marks, NODES, counts, NODES, book, 2, 5);
-    printf("book %u,%u: number %" PRIu64 ", worked %" PRIu64 ", values %u %u\n", book[0], book[1], run & 0xffff, run >> 32,
+    ran = player_run(exprs, 3 * EXPRS, nodes, 5 * NODES, VARS, CHANS, values, VARS, marks, NODES, counts, NODES, book,
+                     ENTRIES, CYCLES);
+    printf("book %d,%d: number %d, worked %d, values %d %d\n", book[0], book[1], PLAYER_NUMBER(ran), PLAYER_WORKED(ran),
            values[0], values[1]);
 }
 
 int main(void)
 {
-    play((const uint16_t[]){1, 2});
-    play((const uint16_t[]){2, 1});
+    static const uint16_t up[ENTRIES] = {1, 2};
+    static const uint16_t down[ENTRIES] = {2, 1};
+
+    play(up);
+    play(down);
     return 0;
 }

@@ -1,5 +1,5 @@
 //! One case, asked of the player and of the reference. Each function gives the number met; `run`
-//! also gives the cycles worked.
+//! also gives the cycles worked, and `run_to` the state that is left besides.
 
 use crate::player::{self, Answer};
 use crate::program::Program;
@@ -74,6 +74,16 @@ pub fn begin(program: &Program, values: &[u16], marks: &[u8], counts: &[u16]) ->
 }
 
 pub fn run(program: &Program, state: &State, schedule: &[u16], cycles: u16) -> (u16, u16) {
+    let (number, worked, _) = run_to(program, state, schedule, cycles);
+    (number, worked)
+}
+
+pub fn run_to(
+    program: &Program,
+    state: &State,
+    schedule: &[u16],
+    cycles: u16,
+) -> (u16, u16, State) {
     let (number, worked, after) = reference::run(program, state, schedule, cycles);
     let mut values = Lent::new(&state.values, 0xa5a5);
     let mut marks = Lent::new(&state.marks, 0xa5);
@@ -93,5 +103,5 @@ pub fn run(program: &Program, state: &State, schedule: &[u16], cycles: u16) -> (
     assert_eq!(values.given_back(), after.values, "values, {}", case());
     assert_eq!(marks.given_back(), after.marks, "marks, {}", case());
     assert_eq!(counts.given_back(), after.counts, "counts, {}", case());
-    (number, worked)
+    (number, worked, after)
 }

@@ -2,6 +2,7 @@
 
 mod damage;
 mod expressions;
+mod late;
 mod maker;
 mod pattern;
 mod program;
@@ -11,6 +12,7 @@ mod state;
 mod values;
 
 pub use damage::{changes, damage, rubbish, tight_limits};
+pub use late::late;
 pub use program::program;
 pub use schedule::{flawed_schedule, right_schedule, schedule};
 pub use shape::{shape, small_shape, Shape};

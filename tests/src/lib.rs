@@ -1,7 +1,8 @@
-//! A second, plain implementation of the rules of document 01, and what is needed to set the
-//! player against it.
+//! A second, plain implementation of the rules, written from the rules document alone, and what is
+//! needed to set the player against it.
 
 pub mod compare;
+pub mod documents;
 pub mod expression;
 pub mod generate;
 pub mod optimised;
@@ -10,6 +11,7 @@ pub mod player;
 pub mod program;
 pub mod random;
 pub mod reference;
+pub mod stack;
 pub mod statement;
 pub mod stopwatch;
 pub mod tally;

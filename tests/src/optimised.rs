@@ -1,10 +1,13 @@
 //! Run, written for speed, to time the player against. Its answers are those of the reference, for
 //! every input.
 //!
-//! The tables of a program are turned into ones that are quick to follow, once for each call; the
-//! cycles then allocate nothing. Marks and counts are changed in place. A refused cycle ends the
-//! run, so that undoing it may be slow: only the stored values are kept for it, the rest is worked
-//! out again.
+//! The tables of a program are turned into ones that are quick to follow, once for each call that
+//! asks for a cycle; the cycles then allocate nothing. Marks and counts are changed in place. A
+//! refused cycle ends the run, so that undoing it may be slow: only the stored values are kept for
+//! it, the rest is worked out again.
+//!
+//! There are two of it: `run` walks over the nodes as the player does, and `run_compiled` has worked
+//! out before the first cycle what entering and leaving comes to whatever the values are.
 
 mod accept;
 mod arithmetic;
@@ -28,17 +31,40 @@ use machine::Machine;
 
 /// The number and the cycles worked; the state is written in place.
 pub fn run(program: &Program, state: &mut State, schedule: &[u16], cycles: u16) -> (u16, u16) {
+    run_on(program, state, schedule, cycles, false)
+}
+
+/// The same, with the nodes passed that a walk passes in every cycle.
+pub fn run_compiled(
+    program: &Program,
+    state: &mut State,
+    schedule: &[u16],
+    cycles: u16,
+) -> (u16, u16) {
+    run_on(program, state, schedule, cycles, true)
+}
+
+fn run_on(
+    program: &Program,
+    state: &mut State,
+    schedule: &[u16],
+    cycles: u16,
+    compiled: bool,
+) -> (u16, u16) {
     if !takes(program, state) {
         // Which of the first six questions is broken need not be found quickly.
         let (number, worked, _) = reference::run(program, state, schedule, cycles);
         return (number, worked);
+    }
+    if cycles == 0 {
+        return (0, 0);
     }
     let State {
         values,
         marks,
         counts,
     } = state;
-    let mut machine = Machine::load(program, values, marks, counts);
+    let mut machine = Machine::load(program, values, marks, counts, compiled);
     let answer = machine.run(schedule, cycles);
     values.copy_from_slice(machine.values());
     answer

@@ -1,4 +1,5 @@
-//! The sample papers of document 01, with the results it states written out in full.
+//! The sample papers of the rules document, with all that it says comes out of them, and two papers of
+//! our own, `stored_condition` and `uneven_threads`, worked by hand.
 
 mod channels;
 mod limits;
@@ -9,10 +10,11 @@ pub use channels::{delayed_out, two_in_on_one_channel, waiting_in_is_no_store};
 pub use limits::{depth_32, depth_33, n_1024, n_1025};
 pub use loops::{
     countdown, loop_around_false_loop, loop_around_par, loop_becomes_zero_time, par_of_false_loops,
+    stored_condition,
 };
 pub use plain::{
-    equal_values_conflict, one_dly, swap, swap_wrong_book, unequal_values_conflict, wrapping,
-    zero_cycles,
+    equal_values_conflict, one_dly, swap, swap_wrong_book, unequal_values_conflict, uneven_threads,
+    wrapping, zero_cycles,
 };
 
 use crate::expression::Expressions;
@@ -63,6 +65,8 @@ pub fn all() -> Vec<Paper> {
         zero_cycles(),
         waiting_in_is_no_store(),
         unequal_values_conflict(),
+        stored_condition(),
+        uneven_threads(),
     ]
 }
 

@@ -86,4 +86,9 @@ impl State {
             .filter(|&i| self.marks[i] == 1)
             .collect()
     }
+
+    /// The same as the entries of a cycle.
+    pub fn entries(&self) -> Vec<u16> {
+        self.marked().into_iter().map(|i| i as u16).collect()
+    }
 }

@@ -1,4 +1,4 @@
-//! The rules of document 01, followed word by word and without regard to speed.
+//! The rules, followed word by word as the rules document has them, without regard to speed.
 
 mod begin;
 mod check;
@@ -8,7 +8,7 @@ mod tree;
 mod walk;
 mod well_formed;
 
-pub use begin::begin;
+pub use begin::{begin, begun};
 pub use check::{check, expression_fault, name_fault, node_fault};
 pub use evaluate::evaluate;
 pub use run::run;

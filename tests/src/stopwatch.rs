@@ -6,14 +6,14 @@ use std::time::{Duration, Instant};
 /// The call is repeated until this time is spent in it, so that the clock's own steps do not matter.
 const LEAST: Duration = Duration::from_millis(20);
 
-/// Nanoseconds per call. Each call starts from a copy of `start`, made while the clock stands.
-pub fn measure(start: &State, mut call: impl FnMut(&mut State)) -> f64 {
-    let mut state = start.clone();
+/// Nanoseconds per call. A call is given so many copies of `start`, made while the clock stands.
+pub fn measure(start: &State, copies: usize, mut call: impl FnMut(&mut [State])) -> f64 {
+    let mut states = vec![start.clone(); copies];
     let (mut spent, mut times) = (Duration::ZERO, 0);
     while spent < LEAST {
-        reset(&mut state, start);
+        states.iter_mut().for_each(|state| reset(state, start));
         let from = Instant::now();
-        call(&mut state);
+        call(&mut states);
         spent += from.elapsed();
         times += 1;
     }

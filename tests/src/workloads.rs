@@ -1,12 +1,16 @@
-//! The programs that the benchmark times. None of them ends or is refused, however long it runs.
+//! The programs that the benchmark times. None of them ends, and one alone is refused.
 
 mod channels;
 mod lists;
+mod paper;
+mod refused;
 mod small;
 
 pub use channels::{channel_pairs, waiting_inputs};
-pub use lists::{chain, long_sequences, looping_assignments};
-pub use small::{nesting, swap_loop};
+pub use lists::{chain, formula, looping_assignments, needed, sequences};
+pub use paper::exam_paper;
+pub use refused::refused_at_the_end;
+pub use small::{choices, nesting, nesting_on_a_variable, swap_loop};
 
 use crate::expression::Expressions;
 use crate::program::{Program, State};
@@ -20,35 +24,39 @@ pub struct Workload {
     pub start: State,
     /// How many cycles one call asks for.
     pub cycles: u16,
+    /// The number and the cycles worked that a call gives.
+    pub answer: (u16, u16),
 }
 
 pub fn all() -> Vec<Workload> {
     vec![
         swap_loop(),
         looping_assignments(),
-        long_sequences(),
+        sequences("10 statements, two active", 10),
+        sequences("100 statements, two active", 100),
+        sequences("1,000 statements, two active", 1_000),
         nesting(),
+        nesting_on_a_variable(),
+        choices(),
         chain(),
+        formula(),
+        needed(),
         channel_pairs(),
         waiting_inputs(),
+        exam_paper(),
+        refused_at_the_end(),
     ]
 }
 
 fn workload(name: &'static str, cycles: u16, program: Program) -> Workload {
     let values: Vec<u16> = (0..program.vars).collect();
-    let n = program.node_count();
-    let (number, marks, counts) = reference::begin(&program, &values, &vec![0; n], &vec![0; n]);
-    assert_eq!(number, 0, "begin of {name}");
-    let start = State {
-        values,
-        marks,
-        counts,
-    };
+    let start = reference::begun(&program, &values).expect(name);
     Workload {
         name,
         program,
         start,
         cycles,
+        answer: (0, cycles),
     }
 }
 

@@ -64,7 +64,7 @@ fn communications() {
         };
         let (mut waited, mut completed) = (false, false);
         for _ in 0..5 {
-            let entries: Vec<u16> = state.marked().iter().map(|&i| i as u16).collect();
+            let entries = state.entries();
             let (number, _, after) = reference::run(&program, &state, &entries, 1);
             if number != 0 {
                 break;

@@ -13,15 +13,17 @@ use pahmozil_tests::tally::Tally;
 /// One case; gives the number and the cycles worked.
 fn hold(program: &Program, state: &State, schedule: &[u16], cycles: u16) -> (u16, u16) {
     let (number, worked, after) = reference::run(program, state, schedule, cycles);
-    let mut got = state.clone();
-    let answer = optimised::run(program, &mut got, schedule, cycles);
     let case = || format!("{program:?} from {state:?} with {schedule:?}, {cycles} cycles");
-    assert_eq!(answer, (number, worked), "{}", case());
-    assert_eq!(got, after, "{}", case());
+    for run in [optimised::run, optimised::run_compiled] {
+        let mut got = state.clone();
+        let answer = run(program, &mut got, schedule, cycles);
+        assert_eq!(answer, (number, worked), "{}", case());
+        assert_eq!(got, after, "{}", case());
+    }
     // Else the reference could have answered for both.
     let taken = optimised::takes(program, state);
     assert_eq!(taken, !(1..=6).contains(&number), "{}", case());
-    answer
+    (number, worked)
 }
 
 fn some_program(random: &mut Random) -> Program {
@@ -158,6 +160,24 @@ fn wide_and_deep_programs() {
     tally.print();
 }
 
+#[test]
+fn refusals_after_hundreds_of_cycles() {
+    let random = &mut Random::new(608);
+    let tally = &mut Tally::new("optimised, refused after 100 cycles or more");
+    for case in 0..1_200 {
+        let number = 8 + case % 3;
+        let worked = random.between(100, 500) as u16;
+        let (program, state) = generate::late(random, number, worked);
+        let schedule = optimised::ascending_schedule(&program, &state, 600);
+        assert_eq!(hold(&program, &state, &schedule, 600), (number, worked));
+        tally.meet(number);
+        // With fewer entries than the last cycles take.
+        let short = &schedule[..schedule.len() - state.marked().len()];
+        tally.meet(hold(&program, &state, short, 600).0);
+    }
+    tally.demand(&[7, 8, 9, 10], 400);
+}
+
 /// WHL 1 {PAR{v0:=v0+1; v1:=v0}} for as many cycles as can be asked, and one short of entries.
 #[test]
 fn the_longest_run() {
@@ -195,7 +215,7 @@ fn ascending_schedules() {
         let mut expected = Vec::new();
         let mut before = state.clone();
         for _ in 0..6 {
-            let entries: Vec<u16> = before.marked().iter().map(|&i| i as u16).collect();
+            let entries = before.entries();
             let (number, _, after) = reference::run(&program, &before, &entries, 1);
             expected.extend(entries);
             before = after;
@@ -213,10 +233,12 @@ fn ascending_schedules() {
 fn sample_papers() {
     for paper in papers::all() {
         for run in &paper.runs {
-            let mut state = paper.start.clone();
-            let answer = optimised::run(&paper.program, &mut state, &run.schedule, run.cycles);
-            assert_eq!(answer, (run.number, run.worked), "{}", paper.name);
-            assert_eq!(state, run.after, "{}", paper.name);
+            for optimised in [optimised::run, optimised::run_compiled] {
+                let mut state = paper.start.clone();
+                let answer = optimised(&paper.program, &mut state, &run.schedule, run.cycles);
+                assert_eq!(answer, (run.number, run.worked), "{}", paper.name);
+                assert_eq!(state, run.after, "{}", paper.name);
+            }
         }
     }
 }

@@ -19,10 +19,6 @@ fn play_player(program: &Program, state: &State, schedule: &[u16], cycles: u16) 
     (answer.number, worked, after)
 }
 
-fn active(state: &State) -> Vec<u16> {
-    state.marked().iter().map(|&i| i as u16).collect()
-}
-
 fn orders(entries: &[u16]) -> Vec<Vec<u16>> {
     if entries.is_empty() {
         return vec![vec![]];
@@ -66,7 +62,7 @@ fn every_order_of_each_cycle(play: Play, seed: u64) {
         let program = a_program(random);
         let mut state = a_state(random, &program);
         for _ in 0..3 {
-            let entries = active(&state);
+            let entries = state.entries();
             if entries.is_empty() || entries.len() > MOST_ACTIVE {
                 break;
             }

@@ -1,4 +1,4 @@
-//! The reference against the sample papers of document 01.
+//! The reference against the sample papers.
 
 use pahmozil_tests::papers::{self, Limit, Paper};
 use pahmozil_tests::reference;
@@ -120,6 +120,16 @@ fn waiting_in_is_no_store() {
 #[test]
 fn unequal_values_conflict() {
     hold(papers::unequal_values_conflict());
+}
+
+#[test]
+fn stored_condition() {
+    hold(papers::stored_condition());
+}
+
+#[test]
+fn uneven_threads() {
+    hold(papers::uneven_threads());
 }
 
 #[test]

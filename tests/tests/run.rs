@@ -121,7 +121,7 @@ fn every_marking_of_small_programs() {
                 marks,
                 counts,
             };
-            let schedule: Vec<u16> = state.marked().iter().map(|&i| i as u16).collect();
+            let schedule = state.entries();
             tally.meet(compare::run(&program, &state, &schedule, 1).0);
         }
     }

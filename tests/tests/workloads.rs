@@ -1,16 +1,19 @@
 //! That the programs of the benchmark are what they are said to be.
 
 use pahmozil_tests::optimised;
-use pahmozil_tests::program::{State, IN, MOST_DEPTH, MOST_EXPRS, OUT};
+use pahmozil_tests::program::{
+    Program, State, ASG, DLY, IF, IN, MOST_DEPTH, MOST_EXPRS, OUT, PAR, SEQ, WHL,
+};
 use pahmozil_tests::reference::{self, Tree};
 use pahmozil_tests::workloads::{self, Workload};
+use std::collections::BTreeSet;
 
 /// The states after each of so many cycles, by the reference, the start first.
 fn states(workload: &Workload, cycles: usize) -> Vec<State> {
     let mut list = vec![workload.start.clone()];
     for _ in 0..cycles {
         let state = list.last().expect("the start stands in it");
-        let entries: Vec<u16> = state.marked().iter().map(|&i| i as u16).collect();
+        let entries = state.entries();
         let (number, worked, after) = reference::run(&workload.program, state, &entries, 1);
         assert_eq!((number, worked), (0, 1), "{}", workload.name);
         list.push(after);
@@ -31,7 +34,7 @@ fn all_run_on() {
         let schedule = optimised::ascending_schedule(program, start, workload.cycles);
         let mut state = start.clone();
         let answer = optimised::run(program, &mut state, &schedule, workload.cycles);
-        assert_eq!(answer, (0, workload.cycles), "{}", workload.name);
+        assert_eq!(answer, workload.answer, "{}", workload.name);
         assert!(!state.marked().is_empty(), "{}", workload.name);
     }
 }
@@ -43,11 +46,19 @@ fn sizes() {
     let expected = [
         (4, 3, 2),
         (501, 501, 250),
+        (10, 5, 2),
+        (100, 5, 2),
         (1_000, 5, 2),
-        (32, 3, 1),
+        (32, 4, 1),
+        (32, 4, 1),
+        (64, 13, 1),
         (2, 1_024, 1),
+        (2, 43, 1),
+        (4, 1_000, 2),
         (257, 129, 128),
         (67, 3, 65),
+        (30, 25, 10),
+        (22, 23, 10),
     ];
     assert_eq!(sizes, expected);
 }
@@ -78,26 +89,36 @@ fn looping_assignments() {
 }
 
 #[test]
-fn long_sequences() {
-    let workload = workloads::long_sequences();
-    assert_eq!(workload.program.node_count(), 1_000);
-    always_active(&workload, 2);
-    // Each leaf has its turn.
-    let mut met = vec![false; 1_000];
-    for state in states(&workload, 498) {
-        state.marked().into_iter().for_each(|i| met[i] = true);
+fn sequences() {
+    for statements in [10, 100, 1_000] {
+        let workload = workloads::sequences("sequences", statements);
+        let program = &workload.program;
+        assert_eq!(program.node_count(), statements);
+        always_active(&workload, 2);
+        // Each leaf has its turn.
+        let mut met = vec![false; statements];
+        for state in states(&workload, statements / 2) {
+            state.marked().into_iter().for_each(|i| met[i] = true);
+        }
+        assert!((0..statements).all(|i| met[i] == program.is_leaf(i)));
     }
-    assert!((0..1_000).all(|i| met[i] == workload.program.is_leaf(i)));
 }
 
 #[test]
 fn nesting() {
-    let workload = workloads::nesting();
-    let tree = Tree::of(&workload.program);
-    let deepest = workload.program.node_count() - 1;
-    assert_eq!(tree.depth(deepest), MOST_DEPTH);
-    always_active(&workload, 1);
-    assert_eq!(states(&workload, 5)[5].values, [5]);
+    let shapes = [workloads::nesting(), workloads::nesting_on_a_variable()];
+    for (workload, op) in shapes.into_iter().zip([0, 1]) {
+        let program = &workload.program;
+        let tree = Tree::of(program);
+        let deepest = program.node_count() - 1;
+        assert_eq!(tree.depth(deepest), MOST_DEPTH);
+        let asked = (0..deepest).filter(|&i| matches!(program.kind(i), IF | WHL));
+        assert!(asked
+            .map(|i| program.op(program.a(i) as usize))
+            .all(|it| it == op));
+        always_active(&workload, 1);
+        assert_eq!(states(&workload, 5)[5].values, [5, 1]);
+    }
 }
 
 #[test]
@@ -112,6 +133,115 @@ fn chain() {
         // The first two are the numbers 1 and 3.
         assert!((2..MOST_EXPRS).all(|e| pair[0][e] != pair[1][e]));
     }
+}
+
+/// The expressions that the nodes need, operands included.
+fn needed_expressions(program: &Program) -> Vec<usize> {
+    let mut needed = vec![false; program.expr_count()];
+    for i in 0..program.node_count() {
+        match program.kind(i) {
+            ASG | OUT => needed[program.b(i) as usize] = true,
+            IF | WHL => needed[program.a(i) as usize] = true,
+            _ => {}
+        }
+    }
+    for e in (0..needed.len()).rev() {
+        if needed[e] && program.op(e) >= 2 {
+            needed[program.p(e) as usize] = true;
+            needed[program.q(e) as usize] = true;
+        }
+    }
+    (0..needed.len()).filter(|&e| needed[e]).collect()
+}
+
+/// How many ops stand above one another in the expression.
+fn levels(program: &Program, e: usize) -> usize {
+    match program.op(e) {
+        0 | 1 => 0,
+        _ => {
+            let [p, q] = [program.p(e), program.q(e)].map(usize::from);
+            1 + levels(program, p).max(levels(program, q))
+        }
+    }
+}
+
+#[test]
+fn formula() {
+    let workload = workloads::formula();
+    let program = &workload.program;
+    assert_eq!(levels(program, program.b(1) as usize), 40);
+    assert_eq!(needed_expressions(program).len(), 43);
+    let states = states(&workload, 50);
+    assert!(states
+        .windows(2)
+        .all(|pair| pair[0].values != pair[1].values));
+}
+
+#[test]
+fn needed() {
+    let workload = workloads::needed();
+    let program = &workload.program;
+    always_active(&workload, 2);
+    let needed = needed_expressions(program);
+    let formulas = needed.into_iter().filter(|&e| program.op(e) >= 2).count();
+    let all = (0..1_000).filter(|&e| program.op(e) >= 2).count();
+    assert_eq!((formulas, all), (2, 996));
+    assert_eq!(states(&workload, 5)[5].values, [5, 16]);
+}
+
+#[test]
+fn choices() {
+    let workload = workloads::choices();
+    let program = &workload.program;
+    let tree = Tree::of(program);
+    always_active(&workload, 1);
+    let states = states(&workload, 31);
+    let met: BTreeSet<usize> = states.iter().flat_map(State::marked).collect();
+    assert_eq!(met.len(), 32, "32 cycles take 32 ways through the choices");
+    // The loop, five IF and the leaf.
+    assert!(met.iter().all(|&i| tree.depth(i) == 7));
+    assert_eq!(states[31].values, [31]);
+}
+
+#[test]
+fn exam_paper() {
+    let workload = workloads::exam_paper();
+    let program = &workload.program;
+    always_active(&workload, 10);
+    let count = |kind: u16| (0..30).filter(|&i| program.kind(i) == kind).count();
+    let counts = [SEQ, PAR, ASG, IN, OUT, IF, WHL, DLY].map(count);
+    assert_eq!(counts, [2, 1, 9, 2, 2, 2, 10, 2]);
+    // In every third cycle a receiver waits; every leaf has its turn; every variable changes.
+    let states = states(&workload, 10_000);
+    let waits = |pair: &[State]| {
+        let stays = |i: &usize| pair[1].marks[*i] == 1 && program.kind(*i) == IN;
+        // The IN on channel 1 is the whole body of its loop, and so it is always marked.
+        pair[0]
+            .marked()
+            .iter()
+            .filter(|i| program.a(**i) == 0)
+            .any(stays)
+    };
+    let waiting = states.windows(2).filter(|pair| waits(pair)).count();
+    assert!((3_300..=3_340).contains(&waiting), "{waiting} cycles");
+    let met: BTreeSet<usize> = states.iter().flat_map(State::marked).collect();
+    assert_eq!(met.len(), (0..30).filter(|&i| program.is_leaf(i)).count());
+    for variable in 0..9 {
+        let first = states[0].values[variable];
+        assert!(states.iter().any(|state| state.values[variable] != first));
+    }
+}
+
+#[test]
+fn refused_at_the_end() {
+    let workload = workloads::refused_at_the_end();
+    let Workload { program, start, .. } = &workload;
+    always_active(&workload, 10);
+    let schedule = optimised::ascending_schedule(program, start, workload.cycles);
+    assert_eq!(schedule.len(), 10 * 30_001);
+    let (number, worked, after) = reference::run(program, start, &schedule, workload.cycles);
+    assert_eq!((number, worked), (10, 30_000));
+    assert_eq!(after.values[..3], [30_000, 30_001, 30_002]);
 }
 
 #[test]

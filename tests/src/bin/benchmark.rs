@@ -1,5 +1,5 @@
-//! Times the player, the reference and the optimised run on the same programs, and prints tables in
-//! Markdown. `docs/BENCHMARK.md` says how to run it and what it does not show.
+//! Times the player, the reference and the two optimised runs on the same programs, and prints
+//! tables in Markdown. `docs/BENCHMARK.md` says how to run it and what it does not show.
 
 use pahmozil_tests::optimised;
 use pahmozil_tests::player;
@@ -13,14 +13,19 @@ use std::process::exit;
 /// Gives the number and the cycles worked, and writes the state in place.
 type Run = fn(&Program, &mut State, &[u16], u16) -> (u16, u16);
 
-const RUNS: [Run; 3] = [by_player, by_reference, optimised::run];
+const RUNS: [Run; 4] = [
+    by_player,
+    by_reference,
+    optimised::run,
+    optimised::run_compiled,
+];
 
 /// Other work on the machine only ever adds time, so that the least of several measurements is kept.
 const ROUNDS: usize = 9;
 
-/// A call without a cycle is short, so that several are timed together. They change nothing, and so
-/// they need no copy of the state between them.
-const SHORT_CALLS: u16 = 16;
+/// A call of one cycle or none is short, so that several are timed together, each on a state of its
+/// own.
+const SHORT_CALLS: usize = 16;
 
 fn by_player(program: &Program, state: &mut State, schedule: &[u16], cycles: u16) -> (u16, u16) {
     let (answer, worked) = player::run(program, state, schedule, cycles);
@@ -37,8 +42,9 @@ fn by_reference(program: &Program, state: &mut State, schedule: &[u16], cycles: 
 struct Row {
     workload: Workload,
     schedule: Vec<u16>,
-    per_cycle: [f64; 3],
-    per_short_call: [f64; 3],
+    per_cycle: [f64; 4],
+    per_call_of_one: [f64; 4],
+    per_call_of_none: [f64; 4],
 }
 
 impl Row {
@@ -50,66 +56,56 @@ impl Row {
             ..
         } = &workload;
         let schedule = optimised::ascending_schedule(program, start, *cycles);
-        demand_agreement(&workload, &schedule, *cycles);
-        demand_agreement(&workload, &[], 0);
+        demand_agreement(&workload, &schedule, *cycles, workload.answer);
+        demand_agreement(&workload, &schedule, 1, (0, 1));
+        demand_agreement(&workload, &schedule, 0, (0, 0));
         Row {
             workload,
             schedule,
-            per_cycle: [f64::INFINITY; 3],
-            per_short_call: [f64::INFINITY; 3],
+            per_cycle: [f64::INFINITY; 4],
+            per_call_of_one: [f64::INFINITY; 4],
+            per_call_of_none: [f64::INFINITY; 4],
         }
     }
 
     /// One measurement of each run.
     fn measure(&mut self) {
+        let Workload { cycles, answer, .. } = self.workload;
         for (at, run) in RUNS.into_iter().enumerate() {
-            self.per_cycle[at] = self.per_cycle[at].min(self.time_cycles(run));
-            self.per_short_call[at] = self.per_short_call[at].min(self.time_short_calls(run));
+            let whole = self.time(run, 1, cycles) / answer.1 as f64;
+            self.per_cycle[at] = self.per_cycle[at].min(whole);
+            let of_one = self.time(run, SHORT_CALLS, 1);
+            self.per_call_of_one[at] = self.per_call_of_one[at].min(of_one);
+            let of_none = self.time(run, SHORT_CALLS, 0);
+            self.per_call_of_none[at] = self.per_call_of_none[at].min(of_none);
         }
     }
 
-    fn time_cycles(&self, run: Run) -> f64 {
-        let Workload {
-            program,
-            start,
-            cycles,
-            ..
-        } = &self.workload;
-        let time = measure(start, |state| {
-            black_box(run(
-                black_box(program),
-                state,
-                black_box(&self.schedule),
-                *cycles,
-            ));
-        });
-        time / *cycles as f64
-    }
-
-    fn time_short_calls(&self, run: Run) -> f64 {
+    /// Nanoseconds per call, of so many calls that are timed together.
+    fn time(&self, run: Run, calls: usize, cycles: u16) -> f64 {
         let Workload { program, start, .. } = &self.workload;
-        let time = measure(start, |state| {
-            for _ in 0..SHORT_CALLS {
-                black_box(run(black_box(program), state, &[], 0));
+        let time = measure(start, calls, |states| {
+            for state in states {
+                black_box(run(
+                    black_box(program),
+                    state,
+                    black_box(&self.schedule),
+                    cycles,
+                ));
             }
         });
-        time / SHORT_CALLS as f64
+        time / calls as f64
     }
 }
 
 /// Times of runs with different answers would not be comparable.
-fn demand_agreement(workload: &Workload, schedule: &[u16], cycles: u16) {
+fn demand_agreement(workload: &Workload, schedule: &[u16], cycles: u16, answer: (u16, u16)) {
     let [first, others @ ..] = RUNS.map(|run| {
         let mut state = workload.start.clone();
         let answer = run(&workload.program, &mut state, schedule, cycles);
         (answer, state)
     });
-    assert_eq!(
-        first.0,
-        (0, cycles),
-        "{}: not worked to the end",
-        workload.name
-    );
+    assert_eq!(first.0, answer, "{}: not the answer", workload.name);
     assert!(
         others.iter().all(|other| *other == first),
         "{}: different answers",
@@ -127,19 +123,23 @@ fn main() {
     for _ in 0..ROUNDS {
         rows.iter_mut().for_each(Row::measure);
     }
-    println!("Time per cycle, the whole call divided by its cycles:\n");
+    println!("Time per cycle, the whole call divided by the cycles that it works:\n");
     print_header("cycles per call");
     for row in &rows {
-        print_row(&row.workload, row.workload.cycles as usize, row.per_cycle);
+        let worked = row.workload.answer.1;
+        print_row(&row.workload, worked as usize, row.per_cycle);
+    }
+    println!("\nTime per call that asks for one cycle:\n");
+    print_header("nodes");
+    for row in &rows {
+        let nodes = row.workload.program.node_count();
+        print_row(&row.workload, nodes, row.per_call_of_one);
     }
     println!("\nTime per call that asks for no cycle:\n");
     print_header("nodes");
     for row in &rows {
-        print_row(
-            &row.workload,
-            row.workload.program.node_count(),
-            row.per_short_call,
-        );
+        let nodes = row.workload.program.node_count();
+        print_row(&row.workload, nodes, row.per_call_of_none);
     }
     println!(
         "\nThe least of {ROUNDS} measurements each. Every call starts from the same state, copied \
@@ -149,17 +149,20 @@ fn main() {
 
 fn print_header(second: &str) {
     println!(
-        "| shape | {second} | player, ns | reference, ns | optimised, ns | player / reference \
-         | player / optimised |"
+        "| shape | {second} | player, ns | reference, ns | optimised, ns | compiled, ns \
+         | player / reference | player / optimised | player / compiled |"
     );
-    println!("|---|--:|--:|--:|--:|--:|--:|");
+    println!("|---|--:|--:|--:|--:|--:|--:|--:|--:|");
 }
 
-fn print_row(workload: &Workload, second: usize, [player, reference, optimised]: [f64; 3]) {
+fn print_row(workload: &Workload, second: usize, times: [f64; 4]) {
+    let [player, reference, optimised, compiled] = times;
     println!(
-        "| {} | {second} | {player:.1} | {reference:.1} | {optimised:.1} | {:.2} | {:.2} |",
+        "| {} | {second} | {player:.1} | {reference:.1} | {optimised:.1} | {compiled:.1} \
+         | {:.2} | {:.2} | {:.2} |",
         workload.name,
         player / reference,
-        player / optimised
+        player / optimised,
+        player / compiled
     );
 }

@@ -1,4 +1,4 @@
-//! Schedules (01's books), found by running the reference cycle by cycle.
+//! Schedules, or books, found by running the reference cycle by cycle.
 
 use crate::program::{Program, State};
 use crate::random::Random;
@@ -15,7 +15,7 @@ pub fn right_schedule(
     let mut list = Vec::new();
     let mut state = state.clone();
     for _ in 0..cycles {
-        let mut entries: Vec<u16> = state.marked().iter().map(|&i| i as u16).collect();
+        let mut entries = state.entries();
         if entries.is_empty() {
             break;
         }

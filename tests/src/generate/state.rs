@@ -3,23 +3,14 @@
 use super::values::values;
 use crate::program::{Program, State, PAR};
 use crate::random::Random;
-use crate::reference::{begin, run, Tree};
+use crate::reference::{begun, run, Tree};
 
 /// The state some cycles after begin, or nothing if begin is refused.
 pub fn reached_state(random: &mut Random, program: &Program, most: usize) -> Option<State> {
-    let n = program.node_count();
     let start = values(random, program.vars as usize);
-    let (number, marks, counts) = begin(program, &start, &vec![1; n], &vec![1; n]);
-    if number != 0 {
-        return None;
-    }
-    let mut state = State {
-        values: start,
-        marks,
-        counts,
-    };
+    let mut state = begun(program, &start).ok()?;
     for _ in 0..random.between(0, most) {
-        let entries: Vec<u16> = state.marked().iter().map(|&i| i as u16).collect();
+        let entries = state.entries();
         let (number, _, next) = run(program, &state, &entries, 1);
         if number != 0 {
             break;

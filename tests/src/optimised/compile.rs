@@ -1,7 +1,7 @@
 //! From the expression list to slots and parts.
 
 use super::arithmetic::Op;
-use super::formulas::{Formulas, Part, Place, Step, NO_PART};
+use super::formulas::{Formulas, Part, Read, Step};
 use super::parts::{owners, NONE};
 use crate::program::Program;
 
@@ -10,7 +10,7 @@ pub fn formulas(program: &Program, values: &[u16]) -> Formulas {
     let mut formulas = Formulas {
         slots: Vec::with_capacity(values.len() + count),
         variable_count: values.len(),
-        places: Vec::with_capacity(count),
+        reads: Vec::with_capacity(count),
         parts: Vec::with_capacity(count),
         steps: Vec::with_capacity(count),
         needs: Vec::with_capacity(2 * count),
@@ -21,6 +21,7 @@ pub fn formulas(program: &Program, values: &[u16]) -> Formulas {
     for steps in ordered(program, &constants).chunk_by(|one, other| one.0 == other.0) {
         add_part(&mut formulas, program, steps);
     }
+    shorten(&mut formulas);
     formulas
 }
 
@@ -28,28 +29,33 @@ pub fn formulas(program: &Program, values: &[u16]) -> Formulas {
 /// here. The slot of a variable is the variable's own.
 fn place(formulas: &mut Formulas, program: &Program) -> Vec<bool> {
     let mut constants = Vec::with_capacity(program.expr_count());
-    for e in 0..program.expr_count() {
-        let (op, p, q) = (program.op(e), program.p(e), program.q(e));
+    for words in program.exprs.chunks_exact(3) {
+        let (op, p, q) = (words[0], words[1], words[2]);
         let constant = op == 0 || op >= 2 && constants[p as usize] && constants[q as usize];
         let own = formulas.slots.len() as u16;
         let first = match op {
             0 => p,
-            _ if constant => apply(formulas, op, p, q),
+            _ if constant => Op::of(op).apply(operand(formulas, p), operand(formulas, q)),
             _ => 0,
         };
         formulas.slots.push(first);
-        formulas.places.push(Place {
-            slot: if op == 1 { p } else { own },
-            part: NO_PART,
-        });
+        formulas
+            .reads
+            .push(Read::Slot(if op == 1 { p } else { own }));
         constants.push(constant);
     }
     constants
 }
 
-fn apply(formulas: &Formulas, op: u16, p: u16, q: u16) -> u16 {
-    let operand = |e: u16| formulas.slots[formulas.places[e as usize].slot as usize];
-    Op::of(op).apply(operand(p), operand(q))
+fn operand(formulas: &Formulas, e: u16) -> u16 {
+    formulas.slots[slot(formulas, e) as usize]
+}
+
+fn slot(formulas: &Formulas, e: u16) -> u16 {
+    match formulas.reads[e as usize] {
+        Read::Slot(slot) | Read::Part { slot, .. } => slot,
+        Read::Step(..) => unreachable!("given only when all parts are known"),
+    }
 }
 
 /// Owner and index of each expression that takes work, part after part. A part reads parts with
@@ -69,10 +75,13 @@ fn add_part(formulas: &mut Formulas, program: &Program, steps: &[(u16, u16)]) {
     let first_step = formulas.steps.len() as u16;
     let first_need = formulas.needs.len() as u16;
     for &(_, e) in steps {
-        add_step(formulas, program, e as usize);
+        add_step(formulas, program, e);
     }
-    let head = steps[0].0 as usize;
-    formulas.places[head].part = formulas.parts.len() as u16;
+    let head = steps[0].0;
+    formulas.reads[head as usize] = Read::Part {
+        part: formulas.parts.len() as u16,
+        slot: slot(formulas, head),
+    };
     formulas.parts.push(Part {
         first_step,
         end_of_steps: formulas.steps.len() as u16,
@@ -82,19 +91,33 @@ fn add_part(formulas: &mut Formulas, program: &Program, steps: &[(u16, u16)]) {
     });
 }
 
-fn add_step(formulas: &mut Formulas, program: &Program, e: usize) {
-    let left = formulas.places[program.p(e) as usize];
-    let right = formulas.places[program.q(e) as usize];
-    // Only the head of a finished part has a part here.
-    for operand in [left, right] {
-        if operand.part != NO_PART {
-            formulas.needs.push(operand.part);
+fn add_step(formulas: &mut Formulas, program: &Program, e: u16) {
+    let operands = [program.p(e as usize), program.q(e as usize)];
+    for operand in operands {
+        // Only the head of a finished part has a part here.
+        if let Read::Part { part, .. } = formulas.reads[operand as usize] {
+            formulas.needs.push(part);
         }
     }
+    let [left, right] = operands.map(|operand| slot(formulas, operand));
     formulas.steps.push(Step {
-        op: Op::of(program.op(e)),
-        left: left.slot,
-        right: right.slot,
-        to: formulas.places[e].slot,
+        op: Op::of(program.op(e as usize)),
+        left,
+        right,
+        to: slot(formulas, e),
     });
+}
+
+/// Parts of one step that need no other part are read without a look whether they are worked.
+fn shorten(formulas: &mut Formulas) {
+    for read in &mut formulas.reads {
+        if let Read::Part { part, .. } = *read {
+            let part = &formulas.parts[part as usize];
+            let one_step = part.first_step + 1 == part.end_of_steps;
+            if one_step && part.first_need == part.end_of_needs {
+                let step = formulas.steps[part.first_step as usize];
+                *read = Read::Step(step.op, step.left, step.right);
+            }
+        }
+    }
 }

@@ -1,15 +1,17 @@
-//! Values of expressions on demand, each worked at most once for the same values of the variables.
+//! Values of expressions on demand. What takes more than one step is worked at most once for the same
+//! values of the variables.
 
 use super::arithmetic::Op;
 
-/// In place of a part: the value stands in its slot without work.
-pub const NO_PART: u16 = 65535;
-
-/// Where the value of an expression stands, and the part to be worked before it is read.
+/// How the value of an expression is found.
 #[derive(Clone, Copy)]
-pub struct Place {
-    pub slot: u16,
-    pub part: u16,
+pub enum Read {
+    /// It stands in a slot: a variable, or what is the same for all time.
+    Slot(u16),
+    /// One step on two such slots, which is as quick as to look whether it is worked.
+    Step(Op, u16, u16),
+    /// It stands in a slot once a part is worked.
+    Part { part: u16, slot: u16 },
 }
 
 #[derive(Clone, Copy)]
@@ -33,7 +35,7 @@ pub struct Formulas {
     /// The variables first, then a slot for each expression.
     pub slots: Vec<u16>,
     pub variable_count: usize,
-    pub places: Vec<Place>,
+    pub reads: Vec<Read>,
     pub parts: Vec<Part>,
     pub steps: Vec<Step>,
     pub needs: Vec<u16>,
@@ -55,13 +57,30 @@ impl Formulas {
         self.now += 1;
     }
 
+    /// The value, if it is the same for all time.
+    pub fn constant(&self, e: u16) -> Option<u16> {
+        match self.reads[e as usize] {
+            Read::Slot(slot) if slot as usize >= self.variable_count => {
+                Some(self.slots[slot as usize])
+            }
+            _ => None,
+        }
+    }
+
     #[inline]
     pub fn value(&mut self, e: u16) -> u16 {
-        let place = self.places[e as usize];
-        if place.part != NO_PART && self.parts[place.part as usize].worked_at != self.now {
-            self.work(place.part as usize);
+        match self.reads[e as usize] {
+            Read::Slot(slot) => self.slots[slot as usize],
+            Read::Step(op, left, right) => {
+                op.apply(self.slots[left as usize], self.slots[right as usize])
+            }
+            Read::Part { part, slot } => {
+                if self.parts[part as usize].worked_at != self.now {
+                    self.work(part as usize);
+                }
+                self.slots[slot as usize]
+            }
         }
-        self.slots[place.slot as usize]
     }
 
     fn work(&mut self, part: usize) {
@@ -78,11 +97,27 @@ impl Formulas {
                 self.work(need);
             }
         }
-        let slots = &mut self.slots[..];
-        for step in &self.steps[first_step as usize..end_of_steps as usize] {
-            let (left, right) = (slots[step.left as usize], slots[step.right as usize]);
-            slots[step.to as usize] = step.op.apply(left, right);
-        }
+        work_steps(
+            &self.steps[first_step as usize..end_of_steps as usize],
+            &mut self.slots,
+        );
         self.parts[part].worked_at = self.now;
+    }
+}
+
+/// A step often reads the one before it, whose result is at hand before it can be read back.
+fn work_steps(steps: &[Step], slots: &mut [u16]) {
+    let (mut last_to, mut last) = (u16::MAX, 0);
+    for step in steps {
+        let read = |slot: u16| {
+            if slot == last_to {
+                last
+            } else {
+                slots[slot as usize]
+            }
+        };
+        let value = step.op.apply(read(step.left), read(step.right));
+        slots[step.to as usize] = value;
+        (last_to, last) = (step.to, value);
     }
 }

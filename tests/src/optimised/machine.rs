@@ -23,10 +23,12 @@ impl<'a> Machine<'a> {
         values: &[u16],
         marks: &'a mut [u8],
         counts: &'a mut [u16],
+        compiled: bool,
     ) -> Machine<'a> {
+        let formulas = formulas(program, values);
         let walk = Walk {
-            nodes: nodes(program),
-            formulas: formulas(program, values),
+            nodes: nodes(program, &formulas, compiled),
+            formulas,
             active: marks.iter().filter(|&&mark| mark == 1).count(),
             marks,
             counts,

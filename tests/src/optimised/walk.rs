@@ -1,7 +1,7 @@
 //! Entering and leaving nodes, on the lent marks and counts.
 
 use super::formulas::Formulas;
-use super::nodes::{After, Kind, Node};
+use super::nodes::{After, Entry, Kind, Node};
 
 pub struct ZeroTimeLoop;
 
@@ -38,18 +38,29 @@ impl Walk<'_> {
         }
     }
 
+    #[inline]
     fn enter(&mut self, i: u16) -> Result<Outcome, ZeroTimeLoop> {
-        let node = self.nodes[i as usize];
-        match node.kind {
-            Kind::Asg | Kind::In | Kind::Out | Kind::Dly => {
-                self.mark(i);
+        match self.nodes[i as usize].entry {
+            Entry::Mark(leaf) => {
+                self.mark(leaf);
                 Ok(Stays)
             }
+            Entry::Finish => Ok(Finished),
+            Entry::Walk => self.enter_by_kind(i),
+        }
+    }
+
+    #[inline(never)]
+    fn enter_by_kind(&mut self, i: u16) -> Result<Outcome, ZeroTimeLoop> {
+        let node = self.nodes[i as usize];
+        match node.kind {
             Kind::Seq => self.enter_in_turn(i + 1, node.end),
             Kind::Par => self.enter_threads(i, node),
             Kind::If => self.enter_choice(i, node),
             Kind::Whl if self.holds(node) => self.enter_body(i),
             Kind::Whl => Ok(Finished),
+            // A leaf's entry is its mark.
+            Kind::Asg | Kind::In | Kind::Out | Kind::Dly => Ok(Stays),
         }
     }
 
@@ -108,6 +119,10 @@ impl Walk<'_> {
         let after = self.nodes[i as usize].after;
         match after {
             After::Stop => Ok(None),
+            After::Mark(leaf) => {
+                self.mark(leaf);
+                Ok(None)
+            }
             After::Enter(next) => Ok((self.enter(next)? == Finished).then_some(next)),
             After::Again(whl) if self.holds(self.nodes[whl as usize]) => {
                 self.enter_body(whl).map(|_| None)

@@ -4,7 +4,7 @@ use super::{program, state, Paper, Run};
 use crate::expression::Expressions;
 use crate::statement::Statement::{Asg, Dly, In, Out, Par, Seq};
 
-/// PAR{IN c0 v0; SEQ{DLY; OUT c0 5}}
+/// PAR{IN c0 v0; a sequence of DLY and OUT c0 5}
 pub fn delayed_out() -> Paper {
     let mut exprs = Expressions::new();
     let five = exprs.number(5);
@@ -54,7 +54,8 @@ pub fn two_in_on_one_channel() -> Paper {
     }
 }
 
-/// Of 01's slips: PAR{IN c0 v0; v0:=1}, where the IN waits and so does not store.
+/// PAR{IN c0 v0; v0:=1}, where the IN waits and so does not store: one of the slips that the rules
+/// document warns of.
 pub fn waiting_in_is_no_store() -> Paper {
     let mut exprs = Expressions::new();
     let one = exprs.number(1);

@@ -120,3 +120,30 @@ pub fn loop_becomes_zero_time() -> Paper {
         program,
     }
 }
+
+/// PAR{v0:=0; WHL v0 {DLY}}. Whichever entry comes first, the loop finds the value that the other
+/// thread stores in the same cycle.
+pub fn stored_condition() -> Paper {
+    let mut exprs = Expressions::new();
+    let zero = exprs.number(0);
+    let v0 = exprs.variable(0);
+    let root = Par(vec![Asg(0, zero), Whl(v0, Box::new(Dly))]);
+    let program = program(exprs, root, 1, 0);
+    let start = state(&program, &[1], &[1, 3], &[(0, 2)]);
+    let ended = state(&program, &[0], &[], &[]);
+    let run = |schedule: Vec<u16>| Run {
+        schedule,
+        cycles: 5,
+        number: 0,
+        worked: 1,
+        after: ended.clone(),
+    };
+    Paper {
+        name: "a condition that another thread stores",
+        values: vec![1],
+        begin: 0,
+        start,
+        runs: vec![run(vec![3, 1]), run(vec![1, 3])],
+        program,
+    }
+}

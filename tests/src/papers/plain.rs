@@ -1,9 +1,9 @@
-//! Papers of DLY and assignments.
+//! Papers of DLY and assignments, without loops or channels.
 
 use super::{program, state, Paper, Run};
 use crate::expression::Expressions;
-use crate::program::Program;
-use crate::statement::Statement::{Asg, Dly, Par};
+use crate::program::{Program, State};
+use crate::statement::Statement::{Asg, Dly, Par, Seq};
 
 /// One DLY.
 pub fn one_dly() -> Paper {
@@ -102,7 +102,7 @@ pub fn equal_values_conflict() -> Paper {
     conflict("two stores of equal values", 1, 1)
 }
 
-/// Of 01's slips.
+/// One of the slips that the rules document warns of.
 pub fn unequal_values_conflict() -> Paper {
     conflict("two stores of unequal values", 1, 2)
 }
@@ -149,6 +149,37 @@ pub fn zero_cycles() -> Paper {
             after: start.clone(),
         }],
         start,
+        program,
+    }
+}
+
+/// SEQ{PAR{DLY; SEQ{DLY; DLY}}; DLY}. The first thread is over after one cycle and the second after
+/// two; only then comes the last DLY, node 6.
+pub fn uneven_threads() -> Paper {
+    let threads = Par(vec![Dly, Seq(vec![Dly, Dly])]);
+    let program = program(Expressions::new(), Seq(vec![threads, Dly]), 0, 0);
+    let start = state(&program, &[], &[2, 4], &[(1, 2)]);
+    let one_thread = state(&program, &[], &[5], &[(1, 1)]);
+    let past_the_par = state(&program, &[], &[6], &[]);
+    let ended = state(&program, &[], &[], &[]);
+    let run = |schedule: Vec<u16>, cycles: u16, worked: u16, after: &State| Run {
+        schedule,
+        cycles,
+        number: 0,
+        worked,
+        after: after.clone(),
+    };
+    Paper {
+        name: "a PAR with one thread longer than the other",
+        values: vec![],
+        begin: 0,
+        start,
+        runs: vec![
+            run(vec![2, 4], 1, 1, &one_thread),
+            run(vec![4, 2], 1, 1, &one_thread),
+            run(vec![2, 4, 5], 2, 2, &past_the_par),
+            run(vec![4, 2, 5, 6], 5, 3, &ended),
+        ],
         program,
     }
 }

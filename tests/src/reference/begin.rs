@@ -4,7 +4,7 @@ use super::check::check;
 use super::evaluate::evaluate;
 use super::tree::Tree;
 use super::walk::Walk;
-use crate::program::Program;
+use crate::program::{Program, State};
 
 /// The number, then the marks and counts as the call leaves them.
 pub fn begin(
@@ -32,6 +32,19 @@ pub fn begin(
     match walk.enter(0) {
         Ok(_) => (0, walk.marks, walk.counts),
         Err(_) => refused(10),
+    }
+}
+
+/// The state that begin leaves, or the number that refuses it.
+pub fn begun(program: &Program, values: &[u16]) -> Result<State, u16> {
+    let n = program.node_count();
+    match begin(program, values, &vec![0; n], &vec![0; n]) {
+        (0, marks, counts) => Ok(State {
+            values: values.to_vec(),
+            marks,
+            counts,
+        }),
+        (number, ..) => Err(number),
     }
 }
 

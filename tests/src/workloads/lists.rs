@@ -21,12 +21,13 @@ pub fn looping_assignments() -> Workload {
     workload("250 looping assignments", 1_000, program)
 }
 
-/// PAR{WHL 1 {SEQ{v0:=v0+1; ..}}; WHL 1 {SEQ{v1:=v1+1; ..}}}, 1,000 statements in all.
-pub fn long_sequences() -> Workload {
+/// PAR{WHL 1 {SEQ{v0:=v0+1; ..}}; WHL 1 {SEQ{v1:=v1+1; ..}}}, with so many statements in all.
+pub fn sequences(name: &'static str, statements: usize) -> Workload {
     let mut exprs = Expressions::new();
     let one = exprs.number(1);
     // The PAR, two WHL and two SEQ are the other five statements.
-    let threads = [(0, 498), (1, 497)].map(|(variable, length)| {
+    let leaves = statements - 5;
+    let threads = [(0, leaves.div_ceil(2)), (1, leaves / 2)].map(|(variable, length)| {
         let leaf = count_up(&mut exprs, one, variable);
         endless(one, Statement::Seq(vec![leaf; length]))
     });
@@ -36,27 +37,65 @@ pub fn long_sequences() -> Workload {
         vars: 2,
         chans: 0,
     };
-    workload("1,000 statements, two active", 30_000, program)
+    workload(name, 30_000, program)
 }
 
-/// WHL 1 {v0:=e}, where e is the last of 1,024 expressions. Each adds 1 to the one before it or
-/// multiplies it by 3: different values of v0 give different values to all of them.
-pub fn chain() -> Workload {
-    let mut exprs = Expressions::new();
-    let one = exprs.number(1);
-    let three = exprs.number(3);
-    let mut last = exprs.variable(0);
-    for e in last as usize + 1..MOST_EXPRS {
+/// Adds expressions up to so many in all. Each adds 1 to the one before it or multiplies it by 3:
+/// different values of the first give different values to all of them.
+fn extend(exprs: &mut Expressions, first: u16, one: u16, three: u16, count: usize) -> u16 {
+    let mut last = first;
+    for e in exprs.list.len() / 3..count {
         last = match e % 2 {
             0 => exprs.product(last, three),
             _ => exprs.sum(last, one),
         };
     }
+    last
+}
+
+/// WHL 1 {v0:=e}, where e is the last of so many expressions, all of which it needs.
+fn chain_of(name: &'static str, cycles: u16, count: usize) -> Workload {
+    let mut exprs = Expressions::new();
+    let one = exprs.number(1);
+    let three = exprs.number(3);
+    let first = exprs.variable(0);
+    let last = extend(&mut exprs, first, one, three, count);
     let program = Program {
         exprs: exprs.list,
         nodes: endless(one, Statement::Asg(0, last)).nodes(),
         vars: 1,
         chans: 0,
     };
-    workload("chain of 1,024 expressions", 5_000, program)
+    workload(name, cycles, program)
+}
+
+pub fn chain() -> Workload {
+    chain_of("chain of 1,024 expressions", 5_000, MOST_EXPRS)
+}
+
+/// 40 ops, each on the one before it, above the variable and two numbers.
+pub fn formula() -> Workload {
+    chain_of("formula of 40 levels", 20_000, 43)
+}
+
+/// WHL 1 {PAR{v0:=v0+1; v1:=v1+3}}, with 994 formulas over v0 in the list that no statement reads.
+pub fn needed() -> Workload {
+    let mut exprs = Expressions::new();
+    let one = exprs.number(1);
+    let three = exprs.number(3);
+    let v0 = exprs.variable(0);
+    let v1 = exprs.variable(1);
+    let unread = extend(&mut exprs, v0, one, three, 998);
+    assert_eq!(unread, 997, "the two that are read come last");
+    let stores = vec![
+        Statement::Asg(0, exprs.sum(v0, one)),
+        Statement::Asg(1, exprs.sum(v1, three)),
+    ];
+    let program = Program {
+        exprs: exprs.list,
+        nodes: endless(one, Statement::Par(stores)).nodes(),
+        vars: 2,
+        chans: 0,
+    };
+    workload("1,000 expressions, two needed", 30_000, program)
 }
