@@ -1,21 +1,39 @@
-/* The clock-cycle player for Handel-C programs.
+/* The clock-cycle player for Handel-C programs: check a program, begin it, run it.
  *
- * Every list is lent for the time of the call: the player keeps no pointer and frees nothing, and it needs no memory of
- * its own but some kilobytes of the caller's stack. A list is a pointer to its first element, then its length in
- * elements, not in bytes. The pointer is aligned for the element and not null, also where the length is 0. A list that
- * a call writes must not overlap any other list of the call.
+ * docs/MACHINE.md tells the whole machine: programs, states, books, and what the numbers below refuse.
  *
- * A program is a list of expressions of three words each (op, p, q), a list of nodes of five words each (kind, parent,
- * end, a, b), and the numbers of variables and of channels. So exprs_len is three times the number of expressions, and
- * nodes_len five times the number of nodes. A state is three lists: one value for each variable, one mark (0 or 1) for
- * each node, and one thread count for each node. A book has one entry for each mark at the start of each cycle: for a
- * run of n cycles, at most n times the number of nodes.
+ * Lists. Every list is lent for the time of the call: the player keeps no pointer and frees nothing. A list is a
+ * pointer to its first element, then its length in elements, not in bytes. The pointer is aligned for the element and
+ * not null. That goes for a list of length 0 too: any aligned pointer but null will do there, and nothing is read
+ * through it. A list that a call writes must not overlap any other list of the call. Lists of any length and content
+ * may be lent otherwise: the answer's number tells what is wrong with them.
+ *
+ * A program is a list of expressions, three words each (op, p, q), a list of nodes, five words each (kind, parent, end,
+ * a, b), and the numbers of variables and of channels. So exprs_len is three times the number of expressions, and
+ * nodes_len five times the number of nodes.
+ *
+ * A state is three lists: a value for each variable, a mark (1 or 0) for each node, a thread count for each node.
  *
  *   uint16_t values[VARS];                      the starting values
  *   uint8_t marks[NODES];                       written by player_begin
  *   uint16_t counts[NODES];                     written by player_begin
  *
- * examples/embed.c begins a program and runs it.
+ * A book has, for each cycle in turn, the numbers of the nodes that are marked when the cycle starts, each once, in any
+ * order. So a book that lasts a whole run is as long as all its cycles have marks together, and need not be longer than
+ * the number of cycles times the number of nodes. A longer book does no harm, since what follows is not read; a book
+ * that is too short is refused with PLAYER_BOOK at the first cycle that it has too few entries for. A caller without an
+ * order of their own runs one cycle at a time, and lists the nodes whose mark is 1 for its book.
+ *
+ * Memory. A call allocates nothing. This is the most of the caller's stack that it was seen to use, over programs that
+ * are large, deep or random (tests/tests/stack.rs). It is measured and not proved; 1 KB is 1,024 bytes:
+ *
+ *   player_check   about 6.2 KB
+ *   player_begin   about 18.3 KB
+ *   player_run     about 21.5 KB
+ *
+ * The archive, target/staticlib/libplayer.a, is for x86-64. examples/embed.c begins a program and runs it.
+ *
+ * This header is for C89 and later, with a <stdint.h>, and for C++98 and later.
  */
 #ifndef PLAYER_H
 #define PLAYER_H
@@ -27,69 +45,106 @@
 extern "C" {
 #endif
 
-/* The question numbers. An answer's number is that of the first question that is answered no, or 0. */
+/* The most that a program may have. */
+enum player_limit {
+    PLAYER_NODES_MAX = 1024, /* at least 1 */
+    PLAYER_EXPRS_MAX = 1024,
+    PLAYER_VARS_MAX = 256,
+    PLAYER_CHANS_MAX = 256,
+    PLAYER_DEPTH_MAX = 32 /* a node and all above it */
+};
+
+/* The parent word of node 0. */
+enum player_parent { PLAYER_NO_PARENT = 65535 };
+
+/* The first word of an expression. Words that are not named are 0. Arithmetic is modulo 65,536. */
+enum player_op {
+    PLAYER_OP_NUMBER = 0,   /* p itself */
+    PLAYER_OP_VARIABLE = 1, /* the value of variable p */
+    /* p and q are the indices of two earlier expressions. */
+    PLAYER_OP_ADD = 2,
+    PLAYER_OP_SUB = 3,
+    PLAYER_OP_MUL = 4,
+    PLAYER_OP_AND = 5,   /* bit by bit */
+    PLAYER_OP_EQUAL = 6, /* 1 or 0 */
+    PLAYER_OP_BELOW = 7  /* 1 or 0, unsigned */
+};
+
+/* The first word of a node. Words that are not named are 0. */
+enum player_kind {
+    PLAYER_KIND_SEQ = 1, /* its children one after the other: 1 child or more */
+    PLAYER_KIND_PAR = 2, /* its children side by side: 2 children or more */
+    PLAYER_KIND_ASG = 3, /* stores expression b to variable a: a leaf */
+    PLAYER_KIND_IN = 4,  /* receives from channel a into variable b: a leaf */
+    PLAYER_KIND_OUT = 5, /* sends expression b on channel a: a leaf */
+    PLAYER_KIND_IF = 6,  /* the first child where expression a is not 0, else the second: 1 or 2 children */
+    PLAYER_KIND_WHL = 7, /* its child again and again while expression a is not 0: 1 child */
+    PLAYER_KIND_DLY = 8  /* nothing, for one cycle: a leaf */
+};
+
+/* What went wrong. The questions are asked in this order, and the answer's number is that of the first that fails. */
 enum player_number {
-    /* None was answered no. */
-    PLAYER_OK = 0,
-    /* Are the list lengths whole records and all counts within the limits? (Nodes 1 to 1,024, expressions 0 to 1,024,
-     * variables and channels 0 to 256.) */
+    PLAYER_OK = 0, /* nothing */
+    /* A list is no whole number of records, or the program is outside the limits above. */
     PLAYER_SIZES = 1,
-    /* Is every expression's op known, its operand in range, its unused word 0? */
+    /* An expression has an unknown op, an operand that is no earlier expression (for op 1: no variable), or an unused
+     * word that is not 0. The item is its index. */
     PLAYER_EXPRESSION = 2,
-    /* Is every node's kind known, its end from one past itself up to its parent's end, its parent as defined, its depth
-     * and number of children allowed, its unused words 0? */
+    /* A node has an unknown kind, an end or a parent word that does not fit the tree, too great a depth, a number of
+     * children that its kind does not have, or an unused word that is not 0. The item is its index. */
     PLAYER_NODE = 3,
-    /* Is every a and b in range of its variables, channels or expressions? */
+    /* A node refers to a variable, channel or expression that the program does not have. The item is its index. */
     PLAYER_RANGE = 4,
-    /* Do the lent state lists have one value for each variable, and one mark and one count for each node? */
+    /* A list of the state has a wrong length. */
     PLAYER_STATE_LENGTHS = 5,
-    /* Is the state well formed? */
+    /* The state is not well formed: a mark is neither 0 nor 1, or not at a leaf; or two marked leaves are not in
+     * different children of a PAR; or a thread count is wrong. */
     PLAYER_STATE = 6,
-    /* Are there as many entries left as there are marks, and are they the marked nodes, each once? */
+    /* The book has too few entries left for the cycle, or they are not the marked nodes, each once. */
     PLAYER_BOOK = 7,
-    /* Has no channel two marked IN or two marked OUT? */
+    /* Two IN are marked on one channel, or two OUT. */
     PLAYER_CHANNEL = 8,
-    /* Do no two completing leaves store to one variable, equal values included? */
+    /* Two completing statements store to one variable. */
     PLAYER_STORE = 9,
-    /* Does the cycle, or the entering of node 0, meet no zero-time loop? */
+    /* A loop went round without a statement that takes a cycle. */
     PLAYER_ZERO_TIME = 10
 };
 
-/* Asks questions 1 to 4 of a program: expressions of three words each, nodes of five words each, and the numbers of
- * variables and of channels. Lists of any lengths and contents may be lent; nothing is written.
+/* The parts of an answer, each a uint16_t. The argument is the whole answer of a call. */
+#define PLAYER_NUMBER(answer) ((uint16_t)((answer) & 0xffffu))
+#define PLAYER_ITEM(answer) ((uint16_t)((answer) >> 16 & 0xffffu))
+/* of player_run's answer alone */
+#define PLAYER_WORKED(answer) ((uint16_t)((answer) >> 32 & 0xffffu))
+
+/* Checks a program: numbers 1 to 4. Nothing is written.
  *
- * The answer holds in its low 16 bits the number of the first question that is answered no, or 0 if none is; and in its
- * high 16 bits the fault item: with 2 the index of an expression, with 3 and 4 the index of a node, that has the fault;
- * with any other number 0.
+ * The answer has the number in its low 16 bits and the item in its high 16 bits. With 2 the item is the index of an
+ * expression that has the fault, with 3 and 4 that of a node; with any other number it is 0.
  */
 uint32_t player_check(const uint16_t *exprs, size_t exprs_len, const uint16_t *nodes, size_t nodes_len, uint16_t vars,
                       uint16_t chans);
 
-/* Begins a program: asks questions 1 to 5 and 10 of it and of three lists, and writes marks and counts from entering
- * node 0. Lists of any lengths and contents may be lent.
+/* Begins a program with the values as they are: numbers 1 to 5, and 10.
  *
- * Read are the program, as in player_check, and the values as given. What stands in marks and counts before the call is
- * ignored. Where the answer is 0, both lists are written whole: an element of marks is 1 for an active statement and
- * else 0, and one of counts is a thread count. Where it is not 0, nothing is written. Question 5 asks that values has
- * one element for each variable, and marks and counts one for each node.
+ * values has an element for each variable, marks and counts have one for each node. What stands in marks and counts
+ * before the call is not read. Where the answer's number is 0, both are written whole: marks has a 1 for each statement
+ * that the first cycle works. Where it is not 0, nothing is written.
  *
- * The answer holds the number and the fault item as player_check's does; with 5 and with 10 the item is 0.
+ * The answer is laid out as player_check's.
  */
 uint32_t player_begin(const uint16_t *exprs, size_t exprs_len, const uint16_t *nodes, size_t nodes_len, uint16_t vars,
                       uint16_t chans, const uint16_t *values, size_t values_len, uint8_t *marks, size_t marks_len,
                       uint16_t *counts, size_t counts_len);
 
-/* Runs a program from the state in three lists: as many values as there are variables, and marks (bytes) and thread
- * counts, one for each node. It asks all ten questions, and works cycles until as many as asked are worked, no mark
- * stands, or a cycle is refused. Each cycle takes the next entries of the book, one for each mark; later entries are
- * not read. Lists of any lengths and contents may be lent.
+/* Runs a program from a state, one that player_begin or player_run left or any other that is well formed: numbers 1 to
+ * 10, of which 7 to 10 are asked anew in each cycle.
  *
- * The three lists are written by the cycles that are worked: refused by 1 to 6 they stay as they were, and refused by 7
- * to 10 they are those before the cycle that was refused.
+ * It works cycles until as many as asked for are worked, no mark stands, or a cycle is refused. The three lists are
+ * then as the last worked cycle left them; where none was worked, they are as they were. It works in the lists
+ * themselves, so that nobody else may read them before it returns, and takes back what a refused cycle wrote.
  *
- * The answer holds in its low 16 bits the number of the first question that is answered no, or 0 if none is; in the
- * next 16 bits the fault item, as player_check gives it; and in the next 16 bits the number of cycles worked. Its high
- * 16 bits are 0.
+ * The answer has the number in its lowest 16 bits, the item, as player_check gives it, in the next 16 bits, and the
+ * cycles worked in the 16 bits above. Its highest 16 bits are 0.
  */
 uint64_t player_run(const uint16_t *exprs, size_t exprs_len, const uint16_t *nodes, size_t nodes_len, uint16_t vars,
                     uint16_t chans, uint16_t *values, size_t values_len, uint8_t *marks, size_t marks_len,
