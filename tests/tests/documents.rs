@@ -57,7 +57,7 @@ fn what_exists_is_let_by() {
         [out there](https://example.org/none.md). `include/player.h`, `docs/BENCHMARK.md`, `BENCHMARK.md`, \
         `player/src/lib.rt`, `must-fail/`, `must-fail/*.edit`, `crates/NAME/must-fail/NAME.edit`, `./play`, `target/staticlib/x.a`, \
         `player_run`, `player::run`, `program::check`, `Check.checkNumber`, `order-rule`, \
-        `faults_of`, `what_exists_is_let_by`, `PLAYER_LIB_DIR`, `u16`, `ended_while_marked`, \
+        `faults_of`, `what_exists_is_let_by`, `PLAYER_LIB_DIR`, `u16`, `asked_as_worked`, \
         `v0:=v1`, `PAR{..}`, `axioms=9`, `65,535`, `..`, `&&`, `./play 3 down`, `N passed, 0 failed`, \
         `rt staticlib player`.\n\n```sh\nno-such-command `no_such_name`\n```\n";
     let sources = Sources::read(&root(), &[]);
