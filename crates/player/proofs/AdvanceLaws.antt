@@ -18,16 +18,17 @@ use Rattle.semantics.specs.Cycle.{newValues, walked, visit}
 use Rattle.semantics.proofs.Run.CrossOut.{markCount-cons}
 use Rattle.semantics.proofs.Order.Stores.{newValues-length}
 use Rattle.player.specs.Begin.{stateOf}
-use Rattle.player.specs.Work.{Memo, Unworked, Climbing, met}
+use Rattle.player.specs.Work.{Memo, KeptFrom, Unworked, Climbing, met}
 use Rattle.player.specs.Walks.{walk, walkIn, holdsIn, Walking, Walks}
 use Rattle.player.specs.WellFormed.{ListsFit}
 use Rattle.player.specs.Entries.{setAll}
-use Rattle.player.specs.Stores.{Stored}
+use Rattle.player.specs.Stores.{Stored, takenBack}
 use Rattle.player.specs.Cycle.{CycleFrom, cycleOf, programFrom, Started, StoreAnswer, AdvanceAnswer, Carried}
 use Rattle.player.specs.Cycle.{walkAfter}
 use Rattle.player.proofs.WorkLaws.{memo-set, memo-rewritten, memo-unworked, tally-set, met-set-tally}
 use Rattle.player.proofs.AcceptedLaws.{accepted-walkable}
 use Rattle.player.proofs.EntryLaws.{all-fit, all-marked}
+use Rattle.player.proofs.HeldLaws.{paired-stays, aged-stays, exchanged-fit}
 use Rattle.player.proofs.UndoLaws.{countFrom, formed-bits, formed-counts}
 
 no-marks : (n : ℕ) → markCount (replicate n 0) ≡ 0
@@ -35,60 +36,70 @@ unfolding filter upFrom
 no-marks zero = refl
 no-marks (suc n) = markCount-cons 0 (replicate n 0) ∙ no-marks n
 
-module _ {exprs nodes values marks counts entries before claims : List ℕ}
-    (x : Started exprs nodes values marks counts entries before claims) where
+module _ {exprs nodes values marks counts entries before claims₀ : List ℕ}
+    (x : Started exprs nodes values marks counts entries before claims₀) where
   abbrev from : CycleFrom exprs nodes values marks counts entries
   from = x .from
 
   few : length values ≤ 256
-  few = let v = from .fit .values in let m = from .accepted .sizes .variablesFit in omega arith
+  few = x .pending .fit .valuesFit
 
   -- ---- the stores
 
-  module _ {changed : Bool} {values′ work : List ℕ}
-      (s : Stored (cycleOf from (x .active)) values before changed values′ work) where
-    right : values′ ≡ newValues (programFrom from) (stateOf values marks counts) entries
-    right = s .right counts
+  module _ {changed : Bool} {values′ work claims : List ℕ} (s : Stored values before claims₀ changed values′ work claims)
+    where
+      right : values′ ≡ newValues (programFrom from) (stateOf values marks counts) entries
+      right = s .right ∙ x .pending .right counts
 
-    same-length : length values′ ≡ length values
-    same-length = ap length right ∙ newValues-length (programFrom from) (stateOf values marks counts) entries
+      pub stored-size : length work ≡ 3331
+      stored-size = s .size ∙ x .memo .size
 
-    pub stored-size : length work ≡ 3331
-    stored-size = s .size ∙ x .memo .size
+      variables : (v : ℕ) → v < length values′ → getD work v 0 ≡ getD values′ v 0
+      variables v l = s .variables v (subst (λ (n : ℕ). v < n) (s .sameLength) l)
 
-    variables : (v : ℕ) → v < length values′ → getD work v 0 ≡ getD values′ v 0
-    variables v l = s .variables v (subst (λ (n : ℕ). v < n) same-length l)
+      front : (j : ℕ) → j < 1536 → getD claims j 0 ≡ getD claims₀ j 0
+      front j l = s .exchanged .front j (omega arith)
 
-    pub stored-moment : {work′ : List ℕ} → Unworked work work′ → StoreAnswer x values′ work′
-    stored-moment {work′} u =
-        let fit = few in
-        let same = same-length in
-        record {
-          right = right;
-          memo = memo-unworked exprs values′ work work′ (omega arith) variables u;
-          kept = λ j l. u .kept j l ∙ s .kept j (omega arith);
-        }
+      stamp : getD claims 3584 0 ≡ getD claims₀ 3584 0
+      stamp = s .exchanged .end 3584 (omega arith)
 
-    pub stored-same : changed ≡ false → StoreAnswer x values′ work
-    stored-same no-change =
-        let unchanged = s .same no-change in
-        record {
-          right = right;
-          memo = subst (λ (v : List ℕ). Memo exprs v work) (sym unchanged)
-              (memo-rewritten exprs values before work
-              (record {
-                size = stored-size;
-                valuesFit = few;
-                variables = λ v l. s .variables v l ∙ ap (λ (vs : List ℕ). getD vs v 0) unchanged;
-                kept = s .kept;
-              })
-              (x .memo));
-          kept = λ j l. s .kept j (omega arith);
-        }
+      -- with what is known of the expressions
+      answer : {work′ : List ℕ} → Memo exprs values′ work′ → KeptFrom 2305 before work′ → StoreAnswer x values′ work′ claims
+      answer memo kept = record {
+        right = right;
+        memo = memo;
+        kept = kept;
+        paired = paired-stays claims₀ claims (s .exchanged .size) front stamp (x .pending .paired);
+        fit = exchanged-fit (s .exchanged) (s .sameLength) (x .pending .fit);
+        back = ap (λ (n : ℕ). takenBack claims n values′) (s .exchanged .end 3585 (omega arith)) ∙ s .back;
+        aged = aged-stays claims₀ claims (s .exchanged .size) front stamp;
+      }
+
+      pub stored-moment : {work′ : List ℕ} → Unworked work work′ → StoreAnswer x values′ work′ claims
+      stored-moment {work′} u =
+          let fit = few in
+          let same = s .sameLength in
+          answer (memo-unworked exprs values′ work work′ (omega arith) variables u)
+          (λ j l. u .kept j l ∙ s .kept j (omega arith))
+
+      pub stored-same : changed ≡ false → StoreAnswer x values′ work claims
+      stored-same no-change =
+          let unchanged = s .same no-change in
+          answer
+          (subst (λ (v : List ℕ). Memo exprs v work) (sym unchanged)
+          (memo-rewritten exprs values before work
+          (record {
+            size = stored-size;
+            valuesFit = few;
+            variables = λ v l. s .variables v l ∙ ap (λ (vs : List ℕ). getD vs v 0) unchanged;
+            kept = s .kept;
+          })
+          (x .memo)))
+          (λ j l. s .kept j (omega arith))
 
   -- ---- the walks
 
-  module _ {values′ work : List ℕ} (s : StoreAnswer x values′ work) where
+  module _ {values′ work claims : List ℕ} (s : StoreAnswer x values′ work claims) where
     values-fit : length values′ ≡ from .variables
     values-fit =
         ap length (s .right) ∙ newValues-length (programFrom from) (stateOf values marks counts) entries
@@ -140,7 +151,7 @@ module _ {exprs nodes values marks counts entries before claims : List ℕ}
         looped : walkAfter (programFrom from) (stateOf values marks counts) entries .looped ≡ met work′
         looped = ap (λ (v : Walk). v .looped) after
 
-        pub advanced : getD work′ 2306 0 ≡ 0 → AdvanceAnswer x 0 values′ marks′ counts′ work′
+        pub advanced : getD work′ 2306 0 ≡ 0 → AdvanceAnswer x 0 values′ marks′ counts′ work′ claims
         advanced z =
             let no-loop = looped ∙ ap (λ (n : ℕ). not (eqb n 0)) z in
             let back = sym after in
@@ -160,6 +171,7 @@ module _ {exprs nodes values marks counts entries before claims : List ℕ}
                 climbing = λ i l. w .kept (2307 + i) (omega arith) ∙ climbing i l;
                 unmet = z;
               };
+              aged = s .aged;
             }
 
         -- the lists that are taken back fit the program
@@ -191,7 +203,7 @@ module _ {exprs nodes values marks counts entries before claims : List ℕ}
             (λ i l. right i l ∙ ap (λ (ms : List ℕ). countFrom nodes ms i) m)
 
         pub taken-back : getD work′ 2306 0 ≢ 0 → {values″ marks″ counts″ : List ℕ} → values″ ≡ values → marks″ ≡ marks
-            → counts″ ≡ counts → AdvanceAnswer x 10 values″ marks″ counts″ work′
+            → counts″ ≡ counts → AdvanceAnswer x 10 values″ marks″ counts″ work′ claims
         taken-back some v m c =
             let loop = looped ∙ ap not (ne-eqb (getD work′ 2306 0) 0 some) in
             record {
@@ -204,4 +216,5 @@ module _ {exprs nodes values marks counts entries before claims : List ℕ}
                     (walkAfter (programFrom from) (stateOf values marks counts) entries .counts))) loop);
               };
               carried = λ z. absurd (omega (arith, z));
+              aged = s .aged;
             }

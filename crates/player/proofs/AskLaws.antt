@@ -113,7 +113,7 @@ module _ {exprs nodes values marks counts entries : List ℕ} (x : CycleFrom exp
         }
 
         pub answer-none : {marks′ before work claims₁ claims : List ℕ} {apart : Bool}
-            → channelsFree (programFrom x) marks ≡ true → getD claims₁ 2048 0 ≡ getD claims₀ 2048 0
+            → channelsFree (programFrom x) marks ≡ true → getD claims₁ 3584 0 ≡ getD claims₀ 3584 0
             → RightSides (cycleOf x active) values before claims₁ apart work claims → apart ≡ true
             → Carried exprs nodes values marks before → marks′ ≡ replicate (length marks) 0
             → AskAnswer x claims₀ 0 marks′ work claims

@@ -105,17 +105,17 @@ module _ (P : Program) (s : State) (book : List ℕ) {m : ℕ} (count : m ≡ ma
         (refused no-zero (answer-asked P s book count
         (a .asked ∙ ap (λ (Q : Program). firstNo (firstQuestions Q (s .marks) (take m book))) whole) no-zero))
 
-    module _ {asked : ℕ} {marks₁ work₁ claims : List ℕ} (a : AskAnswer x claims₀ asked marks₁ work₁ claims)
+    module _ {asked : ℕ} {marks₁ work₁ claims₁ : List ℕ} (a : AskAnswer x claims₀ asked marks₁ work₁ claims₁)
         (none : asked ≡ 0) where
-      abbrev pub begun : Started (P .exprs) (P .nodes) (s .values) (s .marks) (s .counts) (take m book) work₁ claims
+      abbrev pub begun : Started (P .exprs) (P .nodes) (s .values) (s .marks) (s .counts) (take m book) work₁ claims₁
       begun = a .started none
 
       same : programFrom (begun .from) ≡ P
       same = ap (λ (y : CycleFrom (P .exprs) (P .nodes) (s .values) (s .marks) (s .counts) (take m book)). programFrom y)
           (a .same none) ∙ whole
 
-      pub worked-advanced : {number : ℕ} {values′ marks′ counts′ work : List ℕ}
-          → AdvanceAnswer begun number values′ marks′ counts′ work
+      pub worked-advanced : {number : ℕ} {values′ marks′ counts′ work claims : List ℕ}
+          → AdvanceAnswer begun number values′ marks′ counts′ work claims
           → WorkedCycle P s book claims₀ number (stateOf values′ marks′ counts′) work claims
       worked-advanced {number} {values′} {marks′} {counts′} {work} b = record {
         answer = answer-last P s book count (begun .active)
@@ -124,5 +124,5 @@ module _ (P : Program) (s : State) (book : List ℕ) {m : ℕ} (count : m ≡ ma
             (subst (λ (Q : Program). Advanced Q s (take m book) number (stateOf values′ marks′ counts′)) same
             (b .advanced));
         carried = b .carried;
-        aged = λ z. a .aged none;
+        aged = λ z. b .aged (getD claims₀ 3584 0) (a .aged none);
       }

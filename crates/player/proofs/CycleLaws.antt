@@ -4,22 +4,23 @@ use mathlib.Core.Path.{_≡_, refl, sym, ap, _∙_, subst}
 use mathlib.Core.Bool.{Bool, true, false, cond, _&&_}
 use mathlib.Core.List.{List, [], _∷_, foldl}
 use Prim.Native.Nat.{ℕ, suc, _+_, _*_, _≤_, _<_}
-use native.Mathlib.Nat.{lt-of-lt-of-le}
+use native.Mathlib.Nat.{le-refl, lt-of-lt-of-le}
 use native.Mathlib.Numerals.{add-one}
 use native.Mathlib.Omega.{arith}
 use lib.Dec.{eqb, leb}
 use lib.ListN.{length, getD, drop}
 use lib.Seq.{drop-cons}
 use borrow.Author.Tests.{eqb-true}
-use Rattle.semantics.specs.Numbers.{below, filter}
+use Rattle.semantics.specs.Numbers.{below, upFrom, filter}
 use Rattle.semantics.specs.Program.{exprCount, nodeCount, kindOf, aAt, bAt}
 use Rattle.semantics.specs.Check.{referencesOk}
-use Rattle.semantics.specs.State.{marked, active}
+use Rattle.semantics.specs.State.{marked, markCount, active}
 use Rattle.semantics.specs.Completion.{isAsg, isIn, isOut}
 use Rattle.semantics.proofs.Lists.Logic.{and-left, and-right}
 use Rattle.semantics.proofs.Lists.NumberLaws.{filter-filter}
 use Rattle.semantics.proofs.Run.EntriesLaws.{active-means, active-once, timesIn}
 use Rattle.semantics.proofs.Lists.ActiveLaws.{marked-below}
+use Rattle.semantics.proofs.Run.CrossOut.{markCount-cons}
 use Rattle.semantics.proofs.Run.EntryCounts.{entry-count}
 use Rattle.semantics.proofs.Lists.LeafKinds.{asg-names, in-names, out-names}
 use Rattle.player.specs.Work.{Formulas}
@@ -59,6 +60,15 @@ first-active marks f y ys e =
 
 -- ---- the entries
 
+mark-few : (marks : List ℕ) → markCount marks ≤ length marks
+unfolding filter upFrom
+mark-few [] = le-refl 0
+mark-few (m ∷ ms) = rw (markCount-cons m ms) (pick (eqb m 1) (mark-few ms))
+  where
+    pick : (b : Bool) {n l : ℕ} → n ≤ l → cond b (suc n) n ≤ suc l
+    pick true l = omega arith
+    pick false l = omega arith
+
 -- a fold over the entries from k on
 pub fold-next : {A : Type 0} (step : A → ℕ → A) (a : A) (entries : List ℕ) (k : ℕ) → k < length entries
     → foldl step a (drop k entries) ≡ foldl step (step a (getD entries k 0)) (drop (k + 1) entries)
@@ -67,6 +77,14 @@ fold-next step a entries k l = rw (add-one k, drop-cons entries k 0 l)
 module _ {nodes entries : List ℕ} (x : CycleOf nodes entries) where
   pub entry-marked : (k : ℕ) → k < length entries → marked (x .marks) (getD entries k 0) ≡ true
   entry-marked = active-means (x .marks) entries .0 (x .entriesActive) .eachMarked
+
+  pub entries-few : length entries ≤ 1024
+  entries-few =
+      let many = active-means (x .marks) entries .0 (x .entriesActive) .asMany in
+      let few = mark-few (x .marks) in
+      let fit = x .marksFit in
+      let nodes-fit = x .accepted .sizes .nodesFit in
+      omega arith
 
   pub marked-entry : (i : ℕ) → marked (x .marks) i ≡ true
       → (k : ℕ) × (k < length entries) × (getD entries k 0 ≡ i)

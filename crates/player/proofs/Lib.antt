@@ -26,10 +26,10 @@ pub mod CycleLaws
 pub mod EntryPairingLaws
 pub mod PairingLaws
 pub mod StoreLaws
+pub mod HeldLaws
 pub mod SideLaws
 pub mod RightSideLaws
 pub mod StoredLaws
-pub mod RestoreLaws
 pub mod VisitLaws
 pub mod AskLaws
 pub mod AdvanceLaws

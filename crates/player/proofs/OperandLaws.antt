@@ -17,7 +17,7 @@ use Rattle.semantics.proofs.Lists.Logic.{and-left, and-right, cond-at, lt-or-le
 use Rattle.semantics.proofs.Lists.OpLaws.{op-number, op-variable}
 use Rattle.program.specs.Values.{applied}
 use Rattle.program.proofs.ValueLaws.{length-values, by-operands}
-use Rattle.player.specs.Work.{Formulas, Memo}
+use Rattle.player.specs.Work.{Formulas, Memo, Handed}
 
 module _ (exprs values : List ℕ) where
   abbrev ValueFromFirst : ℕ → ℕ → Type 0
@@ -127,3 +127,21 @@ module _ (exprs values : List ℕ) (f : Formulas exprs values) where
       let ex′ : x ≡ getD all (pAt exprs e) 0 = ex ∙ ap (λ (k : ℕ). getD all k 0) ep in
       let ey′ : y ≡ getD all (qAt exprs e) 0 = ey ∙ ap (λ (k : ℕ). getD all k 0) eq in
       applied-op ∙ (λ k. applied (opOf (eop k)) (ex′ k) (ey′ k)) ∙ sym (value-of-operands exprs values e l w lp lq)
+
+-- ---- what is read of an expression without working it
+
+-- a number is its own value
+pub number-handed : (exprs values : List ℕ) (e p : ℕ) → e < exprCount exprs → getD exprs (3 * e) 0 ≡ 0
+    → p ≡ pAt exprs e → Handed exprs values e true p
+number-handed exprs values e p l w ep = record {
+  right = λ k. ep ∙ sym (value-of-number exprs values e l w);
+  two = λ k. absurd (true≢false k);
+}
+
+pub variable-handed : (exprs values : List ℕ) → Formulas exprs values → (work : List ℕ) (e p x : ℕ)
+    → Memo exprs values work → e < exprCount exprs → getD exprs (3 * e) 0 ≡ 1 → p ≡ pAt exprs e → x ≡ getD work p 0
+    → Handed exprs values e true x
+variable-handed exprs values f work e p x m l w ep ex = record {
+  right = λ k. right-by-variable exprs values f work e p x m l w ep ex;
+  two = λ k. absurd (true≢false k);
+}

@@ -32,8 +32,8 @@ empty-rank (y ∷ ys) = eqb·suc-zero (length ys) ∙ sym (eqb·suc-zero y)
 -- Since `before` only channels were claimed.
 pub record ChannelsOnly (before claims : List ℕ) : Type 0 where
   pub unwritten : Unwritten claims
-  pub aged : Aged claims (getD before 2048 0)
-  pub stamp : getD claims 2048 0 ≡ getD before 2048 0
+  pub aged : Aged claims (getD before 3584 0)
+  pub stamp : getD claims 3584 0 ≡ getD before 3584 0
 
 fresh-channels : {claims : List ℕ} → Fresh claims → ChannelsOnly claims claims
 fresh-channels {claims} f = record {
@@ -50,7 +50,7 @@ more-channels {nodes} {i} {free} {start} {before} {claims} h p = record {
   stamp = p .stamp ∙ h .stamp;
 }
   where
-    below : (j : ℕ) → j < 768 → getD claims j 0 ≤ getD start 2048 0
+    below : (j : ℕ) → j < 768 → getD claims j 0 ≤ getD start 3584 0
     below j l =
         elim (lt-or-le j 512) [
           | inl m ↦ elim (p .stamps j m) [

@@ -15,26 +15,26 @@ use Rattle.player.specs.Claims.{rankIn, Fresh, Claim, Claimed}
 
 -- a slot is free whose stamp is not that of the cycle
 pub rank-free : (claims : List ℕ) (part slot : ℕ)
-    → eqb (rankIn claims part slot) 0 ≡ not (eqb (getD claims (part + slot) 0) (getD claims 2048 0))
-rank-free claims part slot = pick (eqb (getD claims (part + slot) 0) (getD claims 2048 0))
+    → eqb (rankIn claims part slot) 0 ≡ not (eqb (getD claims (part + slot) 0) (getD claims 3584 0))
+rank-free claims part slot = pick (eqb (getD claims (part + slot) 0) (getD claims 3584 0))
   where
     pick : (b : Bool) → eqb (cond b (suc (getD claims (768 + part + slot) 0)) 0) 0 ≡ not b
     pick true = eqb·suc-zero (getD claims (768 + part + slot) 0)
     pick false = refl
 
-pub rank-none : (claims : List ℕ) (part slot : ℕ) → getD claims (part + slot) 0 < getD claims 2048 0
+pub rank-none : (claims : List ℕ) (part slot : ℕ) → getD claims (part + slot) 0 < getD claims 3584 0
     → rankIn claims part slot ≡ 0
-rank-none claims part slot l = rw (ne-eqb (getD claims (part + slot) 0) (getD claims 2048 0) (λ e. omega arith))
+rank-none claims part slot l = rw (ne-eqb (getD claims (part + slot) 0) (getD claims 3584 0) (λ e. omega arith))
 
 -- a slot with the stamp of the cycle has the rank of the node beside it
-rank-some : (claims : List ℕ) (part slot : ℕ) → getD claims (part + slot) 0 ≡ getD claims 2048 0
+rank-some : (claims : List ℕ) (part slot : ℕ) → getD claims (part + slot) 0 ≡ getD claims 3584 0
     → rankIn claims part slot ≡ suc (getD claims (768 + part + slot) 0)
-rank-some claims part slot e = rw (eq-eqb (getD claims (part + slot) 0) (getD claims 2048 0) e)
+rank-some claims part slot e = rw (eq-eqb (getD claims (part + slot) 0) (getD claims 3584 0) e)
 
 -- the node of a rank
 pub rank-node : (claims : List ℕ) (part slot : ℕ) {i : ℕ} → rankIn claims part slot ≡ suc i
     → getD claims (768 + part + slot) 0 ≡ i
-rank-node claims part slot {i} = pick (eqb (getD claims (part + slot) 0) (getD claims 2048 0))
+rank-node claims part slot {i} = pick (eqb (getD claims (part + slot) 0) (getD claims 3584 0))
   where
     pick : (b : Bool) → cond b (suc (getD claims (768 + part + slot) 0)) 0 ≡ suc i
         → getD claims (768 + part + slot) 0 ≡ i
@@ -42,7 +42,7 @@ rank-node claims part slot {i} = pick (eqb (getD claims (part + slot) 0) (getD c
     pick false e = absurd (omega arith)
 
 pub rank-kept : (before after : List ℕ) (part slot : ℕ) → getD after (part + slot) 0 ≡ getD before (part + slot) 0
-    → getD after (768 + part + slot) 0 ≡ getD before (768 + part + slot) 0 → getD after 2048 0 ≡ getD before 2048 0
+    → getD after (768 + part + slot) 0 ≡ getD before (768 + part + slot) 0 → getD after 3584 0 ≡ getD before 3584 0
     → rankIn after part slot ≡ rankIn before part slot
 rank-kept before after part slot a b c = λ i. cond (eqb (a i) (c i)) (suc (b i)) 0
 
@@ -53,7 +53,7 @@ fresh-rank {claims} part slot f l = rank-none claims part slot (f .stamps (part 
 
 module _ (claims : List ℕ) (part slot i : ℕ) where
   -- what `claim` leaves where the slot has the stamp of the cycle, and where not
-  pub claim-refused : getD claims (part + slot) 0 ≡ getD claims 2048 0 → Claim claims claims part slot i false
+  pub claim-refused : getD claims (part + slot) 0 ≡ getD claims 3584 0 → Claim claims claims part slot i false
   claim-refused e = record {
     size = refl;
     wasFree = sym (rank-free claims part slot ∙ rw (eq-eqb _ _ e));
@@ -62,9 +62,9 @@ module _ (claims : List ℕ) (part slot i : ℕ) where
     rest = λ j a b. refl;
   }
 
-  pub claim-made : length claims ≡ 2049 → part ≤ 512 → slot < 256
-      → getD claims (part + slot) 0 ≢ getD claims 2048 0
-      → Claim claims (set (set claims (part + slot) (getD claims 2048 0)) (768 + part + slot) i) part slot i true
+  pub claim-made : length claims ≡ 3586 → part ≤ 512 → slot < 256
+      → getD claims (part + slot) 0 ≢ getD claims 3584 0
+      → Claim claims (set (set claims (part + slot) (getD claims 3584 0)) (768 + part + slot) i) part slot i true
   claim-made size p s n = record {
     size = length-set once (768 + part + slot) i ∙ sizeOnce;
     wasFree = sym (rank-free claims part slot ∙ rw (ne-eqb _ _ n));
@@ -74,7 +74,7 @@ module _ (claims : List ℕ) (part slot i : ℕ) where
   }
     where
       stamp : ℕ
-      stamp = getD claims 2048 0
+      stamp = getD claims 3584 0
 
       once : List ℕ
       once = set claims (part + slot) stamp
@@ -96,21 +96,21 @@ module _ (claims : List ℕ) (part slot i : ℕ) where
       there : getD twice (768 + part + slot) 0 ≡ i
       there = getD-set-same once (768 + part + slot) i 0 (omega (arith, sizeOnce))
 
-      stays : getD twice 2048 0 ≡ stamp
-      stays = others 2048 (λ e. omega arith) (λ e. omega arith)
+      stays : getD twice 3584 0 ≡ stamp
+      stays = others 3584 (λ e. omega arith) (λ e. omega arith)
 
 module _ {before after : List ℕ} {part slot i : ℕ} {free : Bool} (c : Claim before after part slot i free)
     (p : part ≤ 512) (s : slot < 256) where
   -- the stamp of the cycle stays
-  pub claim-stamp : getD after 2048 0 ≡ getD before 2048 0
-  claim-stamp = c .rest 2048 (λ e. omega arith) (λ e. omega arith)
+  pub claim-stamp : getD after 3584 0 ≡ getD before 3584 0
+  claim-stamp = c .rest 3584 (λ e. omega arith) (λ e. omega arith)
 
   -- a stamp stays, or becomes that of the cycle
-  pub claim-stamps : (j : ℕ) → j < 768 → (getD after j 0 ≡ getD before j 0) ⊎ (getD after j 0 ≡ getD before 2048 0)
+  pub claim-stamps : (j : ℕ) → j < 768 → (getD after j 0 ≡ getD before j 0) ⊎ (getD after j 0 ≡ getD before 3584 0)
   claim-stamps j l = pick (eqb j (part + slot)) refl
     where
       pick : (b : Bool) → eqb j (part + slot) ≡ b
-          → (getD after j 0 ≡ getD before j 0) ⊎ (getD after j 0 ≡ getD before 2048 0)
+          → (getD after j 0 ≡ getD before j 0) ⊎ (getD after j 0 ≡ getD before 3584 0)
       pick true e = inr (ap (λ (n : ℕ). getD after n 0) (eqb-true j (part + slot) e) ∙ c .stamped)
       pick false e = inl (c .rest j (eqb-false j (part + slot) e) (λ q. omega arith))
 

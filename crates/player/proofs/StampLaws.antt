@@ -8,22 +8,22 @@ use lib.Seq.{getD-set-same, getD-set-other}
 use Rattle.semantics.proofs.Lists.NumberLaws.{zeros}
 use Rattle.player.specs.Claims.{Aged, Fresh}
 
-pub aged-first : Aged (replicate 2049 0) 0
+pub aged-first : Aged (replicate 3586 0) 0
 aged-first = record {
-  size = length-replicate {A = ℕ} 2049 0;
-  stamps = λ j l. let z = zeros 2049 j in omega arith;
+  size = length-replicate {A = ℕ} 3586 0;
+  stamps = λ j l. let z = zeros 3586 j in omega arith;
 }
 
 module _ {claims : List ℕ} {n : ℕ} (a : Aged claims n) where
-  pub stamp-set : getD (set claims 2048 (n + 1)) 2048 0 ≡ n + 1
-  stamp-set = let s = a .size in getD-set-same claims 2048 (n + 1) 0 (omega arith)
+  pub stamp-set : getD (set claims 3584 (n + 1)) 3584 0 ≡ n + 1
+  stamp-set = let s = a .size in getD-set-same claims 3584 (n + 1) 0 (omega arith)
 
   -- the stamp of the next cycle is above all
-  pub fresh-next : Fresh (set claims 2048 (n + 1))
+  pub fresh-next : Fresh (set claims 3584 (n + 1))
   fresh-next = record {
-    size = length-set claims 2048 (n + 1) ∙ a .size;
+    size = length-set claims 3584 (n + 1) ∙ a .size;
     stamps = λ j l.
-        let other = getD-set-other claims 2048 j (n + 1) 0 (λ (e : j ≡ 2048). omega arith) in
+        let other = getD-set-other claims 3584 j (n + 1) 0 (λ (e : j ≡ 3584). omega arith) in
         let old = a .stamps j l in
         let stamp = stamp-set in
         omega arith;

@@ -1,25 +1,20 @@
--- The stores of the first k entries are made, in the values and in what `work` has of them: the stores from k on are
--- still to do.
+-- The first n stores of a cycle are made, in the values and in what `work` has of them, and can be taken back.
 use mathlib.Core.Path.{_≡_, refl, sym, ap, _∙_}
 use mathlib.Core.Bool.{Bool, true, false, not, _||_}
-use mathlib.Core.List.{List, foldl}
-use mathlib.Core.Logic.{inl, inr}
-use Prim.Native.Nat.{ℕ, _+_, _≤_, _<_}
+use mathlib.Core.List.{List}
+use mathlib.Core.Logic.{_≢_, inl, inr}
+use Prim.Native.Nat.{ℕ, suc, _+_, _≤_, _<_}
+use native.Mathlib.Nat.{le-refl}
+use native.Mathlib.Numerals.{add-one}
 use native.Mathlib.Omega.{arith}
 use lib.Dec.{eqb}
-use lib.ListN.{length, getD, set, drop, length-set, drop-of-length-le}
-use lib.Seq.{getD-set-same, getD-set-other, set-getD}
+use lib.ListN.{length, getD, set, length-set}
+use lib.Seq.{getD-set-same, getD-set-other, set-getD, set-set}
 use borrow.Author.Tests.{eqb-true, eqb-false, not-false}
-use Rattle.semantics.specs.Expressions.{exprValues}
-use Rattle.semantics.specs.Completion.{stores, store}
-use Rattle.semantics.specs.Cycle.{newValues}
 use Rattle.semantics.proofs.Lists.Logic.{or-left, or-right, true-or-false}
 use Rattle.player.specs.Work.{KeptFrom}
-use Rattle.player.specs.Channels.{CycleOf, PairedEntry, program}
-use Rattle.player.specs.Stores.{Pending, Stored, targetAt}
-use Rattle.player.proofs.CycleLaws.{entry-marked, fold-next}
-use Rattle.player.proofs.StoreLaws.{target-inside, target-fits, some-source, stored, not-stored}
-use Rattle.player.proofs.SideLaws.{entry-at}
+use Rattle.player.specs.Stores.{putFirst, takenBack, HeldFit, Exchanged, Stored}
+use Rattle.player.proofs.HeldLaws.{back-same}
 
 -- a list of which one element is written, where two lists agree
 agree-set : (n v value : ℕ) (xs ys : List ℕ) → v < length xs → v < length ys
@@ -35,87 +30,121 @@ agree-set n v value xs ys a b h j l =
           getD-set-other xs v j value 0 n ∙ h j l ∙ sym (getD-set-other ys v j value 0 n)
     ]
 
-module _ {nodes entries : List ℕ} (x : CycleOf nodes entries) (old before : List ℕ) where
-  -- one entry's store, from the table of the right sides in the old values
-  abbrev step : List ℕ → ℕ → List ℕ
-  step = store (program x) (x .marks) (exprValues (x .exprs) old)
+-- an element that is written and written back
+set-back : (values : List ℕ) (v value : ℕ) → set (set values v value) v (getD values v 0) ≡ values
+set-back values v value = set-set values v value (getD values v 0) ∙ set-getD values v 0
 
-  pub record StoredTo (changed : Bool) (values work : List ℕ) (k : ℕ) : Type 0 where
+module _ (old before claims₀ : List ℕ) where
+  -- The first n stores are made, and their old values are held.
+  pub record StoredTo (changed : Bool) (values work claims : List ℕ) (n : ℕ) : Type 0 where
     pub size : length work ≡ length before
     pub valuesSize : length values ≡ length old
-    pub rest : foldl step old entries ≡ foldl step values (drop k entries)
+    pub right : values ≡ putFirst claims₀ n old
     pub variables : (v : ℕ) → v < length old → getD work v 0 ≡ getD values v 0
     pub kept : KeptFrom 256 before work
     pub same : changed ≡ false → values ≡ old
+    pub exchanged : Exchanged claims₀ claims
+    pub ahead : (j : ℕ) → n ≤ j → getD claims (2560 + j) 0 ≡ getD claims₀ (2560 + j) 0
+    pub back : takenBack claims n values ≡ old
 
-  pub stored-none : ((v : ℕ) → v < length old → getD before v 0 ≡ getD old v 0) → StoredTo false old before 0
+  pub stored-none : ((v : ℕ) → v < length old → getD before v 0 ≡ getD old v 0)
+      → StoredTo false old before claims₀ 0
   stored-none h = record {
     size = refl;
     valuesSize = refl;
-    rest = refl;
+    right = refl;
     variables = h;
     kept = λ j l. refl;
     same = λ r. refl;
+    exchanged = record { size = refl; front = λ j l. refl; end = λ j l. refl };
+    ahead = λ j l. refl;
+    back = refl;
   }
 
-  module _ {changed : Bool} {values work : List ℕ} {k : ℕ} (h : StoredTo changed values work k) where
-    pub stored-all : length entries ≤ k → Stored x old before changed values work
-    unfolding newValues
-    stored-all l =
-        let done : foldl step values (drop k entries) ≡ values = rw (drop-of-length-le entries {i = k} l) in
-        record {
-          size = h .size;
-          right = λ counts. sym (h .rest ∙ done);
-          variables = h .variables;
-          kept = h .kept;
-          same = h .same;
-        }
+  module _ {changed : Bool} {values work claims : List ℕ} {n : ℕ} (h : StoredTo changed values work claims n) where
+    pub stored-all : n ≡ getD claims₀ 3585 0 → Stored old before claims₀ changed values work claims
+    stored-all e = record {
+      size = h .size;
+      right = h .right ∙ ap (λ (i : ℕ). putFirst claims₀ i old) e;
+      sameLength = h .valuesSize;
+      variables = h .variables;
+      kept = h .kept;
+      same = h .same;
+      exchanged = h .exchanged;
+      back = ap (λ (i : ℕ). takenBack claims i values) (sym e) ∙ h .back;
+    }
 
-    module _ {claims : List ℕ} (p : Pending x old claims) (l : k < length entries) where
-      abbrev entry : ℕ
-      entry = getD entries k 0
-
+    module _ (fit : HeldFit old claims₀) (l : n < getD claims₀ 3585 0) where
       abbrev target : ℕ
-      target = targetAt nodes entry
+      target = getD claims (1536 + n) 0
 
-      abbrev pending-entry : PairedEntry nodes claims entry
-      pending-entry = entry-at x (p .paired) k l
+      abbrev value : ℕ
+      value = getD claims (2560 + n) 0
 
-      next : {values′ : List ℕ} → step values entry ≡ values′
-          → foldl step old entries ≡ foldl step values′ (drop (k + 1) entries)
-      next e =
-          h .rest ∙ fold-next step values entries k l ∙ ap (λ (v : List ℕ). foldl step v (drop (k + 1) entries)) e
+      room : n < 1024
+      room = let few = fit .few in omega arith
 
-      -- an entry that stores nothing
-      pub stored-skip : stores (program x) (x .marks) entry ≡ false → StoredTo changed values work (k + 1)
-      stored-skip s = record {
-        size = h .size;
-        valuesSize = h .valuesSize;
-        rest = next (not-stored pending-entry (exprValues (x .exprs) old) values s);
-        variables = h .variables;
-        kept = h .kept;
-        same = h .same;
-      }
+      same-target : target ≡ getD claims₀ (1536 + n) 0
+      same-target = let u = room in h .exchanged .front (1536 + n) (omega arith)
 
-      -- an entry whose new value is stored
-      pub stored-more : stores (program x) (x .marks) entry ≡ true → length before ≡ 3331 → (value : ℕ)
-          → value ≡ getD claims (1536 + target) 0
+      pub stored-target : target < length values
+      stored-target =
+          let was = fit .targets n l in
+          let same = same-target in
+          let length-same = h .valuesSize in
+          omega arith
+
+      pub stored-few : target < 256
+      stored-few =
+          let inside = stored-target in
+          let most = fit .valuesFit in
+          let length-same = h .valuesSize in
+          omega arith
+
+      -- store n is made
+      pub stored-more : length before ≡ 3331
           → StoredTo (not (eqb (getD values target 0) value) || changed) (set values target value)
-          (set work target value) (k + 1)
-      stored-more s full value new =
-          let v = target-fits pending-entry s in
-          let (e, q) = some-source pending-entry s in
-          let right = new ∙ p .held entry (entry-marked x k l) s .new e q in
-          let here : target < length values = rw (h .valuesSize, p .valuesFit) (target-inside pending-entry s) in
+          (set work target value) (set claims (2560 + n) (getD values target 0)) (n + 1)
+      stored-more full =
+          let u = room in
+          let few = stored-few in
+          let sizes : length claims ≡ 3586 = h .exchanged .size ∙ fit .size in
+          let claims′ = set claims (2560 + n) (getD values target 0) in
+          let other : (j : ℕ) → j ≢ 2560 + n → getD claims′ j 0 ≡ getD claims j 0 =
+          λ j d. getD-set-other claims (2560 + n) j (getD values target 0) 0 d in
           record {
             size = length-set work target value ∙ h .size;
             valuesSize = length-set values target value ∙ h .valuesSize;
-            rest = next
-                (stored pending-entry (exprValues (x .exprs) old) values e s q ∙ ap (set values target) (sym right));
-            variables = agree-set (length old) target value work values (omega (arith, h .size)) here (h .variables);
-            kept = λ j u. getD-set-other work target j value 0 (λ e. omega arith) ∙ h .kept j u;
+            right =
+                let first = h .right in
+                let here = same-target in
+                let new = h .ahead n (le-refl n) in
+                (λ i. set (first i) (here i) (new i)) ∙ ap (λ (i : ℕ). putFirst claims₀ i old) (sym (add-one n));
+            variables = agree-set (length old) target value work values (omega (arith, h .size)) stored-target (h .variables);
+            kept = λ j m. getD-set-other work target j value 0 (λ e. omega arith) ∙ h .kept j m;
             same = λ r.
                 let differs = not (eqb (getD values target 0) value) in
                 let still = eqb-true (getD values target 0) value (not-false _ (or-left differs changed r)) in
                 ap (set values target) (sym still) ∙ set-getD values target 0 ∙ h .same (or-right differs changed r);
+            exchanged = record {
+              size = length-set claims (2560 + n) (getD values target 0) ∙ h .exchanged .size;
+              front = λ j m. other j (λ e. omega arith) ∙ h .exchanged .front j m;
+              end = λ j m. other j (λ e. omega arith) ∙ h .exchanged .end j m;
+            };
+            ahead = λ j m. other (2560 + j) (λ e. omega arith) ∙ h .ahead j (omega arith);
+            back =
+                let place : getD claims′ (1536 + n) 0 ≡ target = other (1536 + n) (λ e. omega arith) in
+                let was : getD claims′ (2560 + n) 0 ≡ getD values target 0 =
+                getD-set-same claims (2560 + n) (getD values target 0) 0 (omega arith) in
+                ap (λ (i : ℕ). takenBack claims′ i (set values target value)) (add-one n)
+                ∙ (λ i. takenBack claims′ n (set (set values target value) (place i) (was i)))
+                ∙ ap (takenBack claims′ n) (set-back values target value)
+                ∙ back-same claims claims′ n values
+                (λ j m. (other (1536 + j) (λ e. omega arith), other (2560 + j) (λ e. omega arith))) ∙ h .back;
           }
+
+-- one store of those that are taken back
+pub back-next : (claims : List ℕ) (n m : ℕ) (values : List ℕ) → m ≡ suc n
+    → takenBack claims m values
+    ≡ takenBack claims n (set values (getD claims (1536 + n) 0) (getD claims (2560 + n) 0))
+back-next claims n m values e = ap (λ (i : ℕ). takenBack claims i values) e

@@ -37,13 +37,13 @@ Ranked x f part claims =
     (c : ℕ) → c < 256 → rankIn claims part c ≡ rankOf (markedOn (program x) (x .marks) f c)
 
 pub record Paired {nodes entries : List ℕ} (x : CycleOf nodes entries) (claims : List ℕ) : Type 0 where
-  pub size : length claims ≡ 2049
+  pub size : length claims ≡ 3586
   pub inputs : Ranked x isIn 0 claims
   pub outputs : Ranked x isOut 256 claims
 
 -- No variable is claimed in this cycle.
 abbrev pub Unwritten : List ℕ → Type 0
-Unwritten claims = (v : ℕ) → v < 256 → getD claims (512 + v) 0 < getD claims 2048 0
+Unwritten claims = (v : ℕ) → v < 256 → getD claims (512 + v) 0 < getD claims 3584 0
 
 -- The answer to question 8, with the claims where it is yes.
 pub record Pairing {nodes entries : List ℕ} (x : CycleOf nodes entries) (free : Bool) (before claims : List ℕ) : Type 0
@@ -51,8 +51,8 @@ pub record Pairing {nodes entries : List ℕ} (x : CycleOf nodes entries) (free 
     pub answer : free ≡ channelsFree (program x) (x .marks)
     pub paired : free ≡ true → Paired x claims
     pub unwritten : Unwritten claims
-    pub aged : Aged claims (getD before 2048 0)
-    pub stamp : getD claims 2048 0 ≡ getD before 2048 0
+    pub aged : Aged claims (getD before 3584 0)
+    pub stamp : getD claims 3584 0 ≡ getD before 3584 0
 
 -- Node i is marked in a cycle whose channels are paired.
 pub record PairedEntry (nodes claims : List ℕ) (i : ℕ) : Type 0 where
@@ -69,6 +69,6 @@ pub record EntryPairing (nodes : List ℕ) (i : ℕ) (free : Bool) (before claim
       ≡ isFree (hasKind nodes isIn) (aAt nodes) 0 before i && isFree (hasKind nodes isOut) (aAt nodes) 256 before i
   pub inputs : free ≡ true → Claimed (hasKind nodes isIn) (aAt nodes) 0 before claims i
   pub outputs : free ≡ true → Claimed (hasKind nodes isOut) (aAt nodes) 256 before claims i
-  pub stamps : (j : ℕ) → j < 512 → (getD claims j 0 ≡ getD before j 0) ⊎ (getD claims j 0 ≡ getD before 2048 0)
+  pub stamps : (j : ℕ) → j < 512 → (getD claims j 0 ≡ getD before j 0) ⊎ (getD claims j 0 ≡ getD before 3584 0)
   pub writers : (v : ℕ) → v < 256 → getD claims (512 + v) 0 ≡ getD before (512 + v) 0
-  pub stamp : getD claims 2048 0 ≡ getD before 2048 0
+  pub stamp : getD claims 3584 0 ≡ getD before 3584 0

@@ -1,7 +1,8 @@
 -- What a cycle claims, in one list, `claims`. From 0 on the stamp of each channel that an IN claimed, from 256 on of each
 -- that an OUT claimed, from 512 on of each variable that a store claimed; 768 past a stamp the node that claimed it. From
--- 1536 on the new value of each variable that is stored to, from 1792 on its old one; and at 2048 the stamp of the cycle.
--- A slot is claimed in the cycle whose stamp it has; stamps rise from cycle to cycle, so that no slot is ever cleared.
+-- 1536 on the variable of each store of the cycle, from 2560 on the value for it, and once the stores are made, the value
+-- before. At 3584 the stamp of the cycle, and at 3585 the number of its stores. A slot is claimed in the cycle whose stamp
+-- it has; stamps rise from cycle to cycle, so that no slot is ever cleared.
 use mathlib.Core.Path.{_≡_}
 use mathlib.Core.Bool.{Bool, true, cond, not, _&&_, _||_}
 use mathlib.Core.Logic.{_≢_}
@@ -19,24 +20,24 @@ rankOf (x ∷ xs) = suc x
 -- The rank that a slot of a part has in this cycle: one more than the node that claimed it, or 0.
 abbrev pub rankIn : List ℕ → ℕ → ℕ → ℕ
 rankIn claims part slot =
-    cond (eqb (getD claims (part + slot) 0) (getD claims 2048 0)) (suc (getD claims (768 + part + slot) 0)) 0
+    cond (eqb (getD claims (part + slot) 0) (getD claims 3584 0)) (suc (getD claims (768 + part + slot) 0)) 0
 
 -- No slot has a stamp above n.
 pub record Aged (claims : List ℕ) (n : ℕ) : Type 0 where
-  pub size : length claims ≡ 2049
+  pub size : length claims ≡ 3586
   pub stamps : (j : ℕ) → j < 768 → getD claims j 0 ≤ n
 
 -- In this cycle no slot is claimed yet.
 pub record Fresh (claims : List ℕ) : Type 0 where
-  pub size : length claims ≡ 2049
-  pub stamps : (j : ℕ) → j < 768 → getD claims j 0 < getD claims 2048 0
+  pub size : length claims ≡ 3586
+  pub stamps : (j : ℕ) → j < 768 → getD claims j 0 < getD claims 3584 0
 
 -- Whether a slot of a part was free; then node i has claimed it.
 pub record Claim (before after : List ℕ) (part slot i : ℕ) (free : Bool) : Type 0 where
   pub size : length after ≡ length before
   pub wasFree : free ≡ eqb (rankIn before part slot) 0
   pub isClaimed : free ≡ true → rankIn after part slot ≡ suc i
-  pub stamped : getD after (part + slot) 0 ≡ getD before 2048 0
+  pub stamped : getD after (part + slot) 0 ≡ getD before 3584 0
   pub rest : (j : ℕ) → j ≢ part + slot → j ≢ 768 + part + slot → getD after j 0 ≡ getD before j 0
 
 -- A node that passes the test `uses` wants the slot `key` of a part.

@@ -18,8 +18,8 @@ use Rattle.program.specs.Answer.{programOf}
 use Rattle.player.specs.Begin.{stateOf}
 use Rattle.player.specs.Work.{Memo, KeptFrom, Climbing}
 use Rattle.player.specs.Claims.{Aged}
-use Rattle.player.specs.Channels.{CycleOf}
-use Rattle.player.specs.Stores.{Pending}
+use Rattle.player.specs.Channels.{CycleOf, Paired}
+use Rattle.player.specs.Stores.{HeldFit, Pending, takenBack}
 
 pub record Runnable (P : Program) (s : State) : Type 0 where
   pub accepted : checkNumber P ≡ 0
@@ -102,23 +102,28 @@ pub record AskAnswer {exprs nodes values marks counts entries : List ℕ}
   pub cleared : number ≡ 0 → marks′ ≡ replicate (length marks) 0
   pub started : number ≡ 0 → Started exprs nodes values marks counts entries work claims
   pub same : (z : number ≡ 0) → started z .from ≡ x
-  pub aged : number ≡ 0 → Aged claims (getD claims₀ 2048 0)
+  pub aged : number ≡ 0 → Aged claims (getD claims₀ 3584 0)
 
-pub record StoreAnswer {exprs nodes values marks counts entries before claims : List ℕ}
-    (x : Started exprs nodes values marks counts entries before claims) (values′ work : List ℕ) : Type 0 where
+pub record StoreAnswer {exprs nodes values marks counts entries before claims₀ : List ℕ}
+    (x : Started exprs nodes values marks counts entries before claims₀) (values′ work claims : List ℕ) : Type 0 where
   pub right : values′ ≡ newValues (programFrom (x .from)) (stateOf values marks counts) entries
   pub memo : Memo exprs values′ work
   pub kept : KeptFrom 2305 before work
+  pub paired : Paired (cycleOf (x .from) (x .active)) claims
+  pub fit : HeldFit values′ claims
+  pub back : takenBack claims (getD claims 3585 0) values′ ≡ values
+  pub aged : (n : ℕ) → Aged claims₀ n → Aged claims n
 
-pub record AdvanceAnswer {exprs nodes values marks counts entries before claims : List ℕ}
-    (x : Started exprs nodes values marks counts entries before claims) (number : ℕ)
-    (values′ marks′ counts′ work : List ℕ) : Type 0 where
+pub record AdvanceAnswer {exprs nodes values marks counts entries before claims₀ : List ℕ}
+    (x : Started exprs nodes values marks counts entries before claims₀) (number : ℕ)
+    (values′ marks′ counts′ work claims : List ℕ) : Type 0 where
   pub advanced : Advanced (programFrom (x .from)) (stateOf values marks counts) entries number
       (stateOf values′ marks′ counts′)
   pub carried : number ≡ 0 → Carried exprs nodes values′ marks′ work
+  pub aged : (n : ℕ) → Aged claims₀ n → Aged claims n
 
 pub record WorkedCycle (P : Program) (s : State) (book claims₀ : List ℕ) (number : ℕ) (s′ : State) (work claims : List ℕ)
     : Type 0 where
   pub answer : CycleAnswer P s book number s′
   pub carried : number ≡ 0 → Carried (P .exprs) (P .nodes) (s′ .values) (s′ .marks) work
-  pub aged : number ≡ 0 → Aged claims (getD claims₀ 2048 0)
+  pub aged : number ≡ 0 → Aged claims (getD claims₀ 3584 0)

@@ -50,14 +50,14 @@ pub fn sender(claims: &[u16; CLAIMS], channel: ChanId) -> u16
 
 // Whether the channel was free for input, or for output; then node i claims it.
 fn claim_in(claims: &mut [u16; CLAIMS], channel: ChanId, i: u16) -> bool
-    requires { ⌜ (channel .0 < 256) × (length (now claims) ≡ 2049) ⌝ }
+    requires { ⌜ (channel .0 < 256) × (length (now claims) ≡ 3586) ⌝ }
     ensures { λ r. ⌜ Claim (now (claims .entry)) (now (claims .exit)) 0 (channel .0) i r ⌝ }
 {
     claims::claim(claims, INPUTS, channel.0, i)
 }
 
 fn claim_out(claims: &mut [u16; CLAIMS], channel: ChanId, i: u16) -> bool
-    requires { ⌜ (channel .0 < 256) × (length (now claims) ≡ 2049) ⌝ }
+    requires { ⌜ (channel .0 < 256) × (length (now claims) ≡ 3586) ⌝ }
     ensures { λ r. ⌜ Claim (now (claims .entry)) (now (claims .exit)) 256 (channel .0) i r ⌝ }
 {
     claims::claim(claims, OUTPUTS, channel.0, i)
@@ -65,7 +65,7 @@ fn claim_out(claims: &mut [u16; CLAIMS], channel: ChanId, i: u16) -> bool
 
 // Node i claims its channel, for input if it is an IN and for output if it is an OUT: whether it was free.
 fn pair_one(nodes: &[u16], i: u16, claims: &mut [u16; CLAIMS]) -> bool
-    requires { ⌜ (i < nodeCount (now nodes)) × (length (now claims) ≡ 2049) ⌝ }
+    requires { ⌜ (i < nodeCount (now nodes)) × (length (now claims) ≡ 3586) ⌝ }
     requires { ⌜ (hasKind (now nodes) isIn i ≡ true → aAt (now nodes) i < 256) ⌝ }
     requires { ⌜ (hasKind (now nodes) isOut i ≡ true → aAt (now nodes) i < 256) ⌝ }
     ensures { λ r. ⌜ EntryPairing (now (nodes .entry)) i r (now (claims .entry)) (now (claims .exit)) ⌝ }

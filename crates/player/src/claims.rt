@@ -15,18 +15,20 @@ pub const WRITERS: usize = 512;
 // From a stamp to the node that claimed its slot.
 const NODES: usize = 768;
 
-pub const NEW: usize = 1536;
+pub const TARGETS: usize = 1536;
 
-pub const OLD: usize = 1792;
+pub const HELD: usize = 2560;
 
-pub const STAMP: usize = 2048;
+pub const STAMP: usize = 3584;
 
-pub const CLAIMS: usize = 2049;
+pub const STORES: usize = 3585;
+
+pub const CLAIMS: usize = 3586;
 
 // Whether the slot of a part was free; then node i claims it. A slot is a plain number, for channels and variables are
 // claimed alike; the functions that call this take a channel or a variable.
 pub fn claim(claims: &mut [u16; CLAIMS], part: usize, slot: u16, i: u16) -> bool
-    requires { ⌜ (part ≤ 512) × (slot < 256) × (length (now claims) ≡ 2049) ⌝ }
+    requires { ⌜ (part ≤ 512) × (slot < 256) × (length (now claims) ≡ 3586) ⌝ }
     ensures { λ r. ⌜ Claim (now (claims .entry)) (now (claims .exit)) part slot i r ⌝ }
 {
     let at = part + (slot as usize);

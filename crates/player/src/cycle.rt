@@ -57,21 +57,14 @@ fn ask(
 }
 
 // The stores of a cycle. A moment ends where a value changes.
-fn store(
-    exprs: &[u16],
-    nodes: &[u16],
-    values: &mut [u16],
-    entries: &[u16],
-    work: &mut [u16; WORK],
-    claims: &[u16; CLAIMS],
-)
-    requires { ⌜ ((marks : List ℕ) × (counts : List ℕ) × Started (now exprs) (now nodes) (now values) marks counts (now entries) (now work) (now claims)) ⌝ }
-    ensures { λ _. ⌜ ((marks counts : List ℕ)
-        (x : Started (now (exprs .entry)) (now (nodes .entry)) (now (values .entry)) marks counts
-        (now (entries .entry)) (now (work .entry)) (now (claims .entry)))
-        → StoreAnswer x (now (values .exit)) (now (work .exit))) ⌝ }
+fn store(values: &mut [u16], work: &mut [u16; WORK], claims: &mut [u16; CLAIMS])
+    requires { ⌜ ((exprs : List ℕ) × (nodes : List ℕ) × (marks : List ℕ) × (counts : List ℕ) × (entries : List ℕ)
+        × Started exprs nodes (now values) marks counts entries (now work) (now claims)) ⌝ }
+    ensures { λ _. ⌜ ((exprs nodes marks counts entries : List ℕ)
+        (x : Started exprs nodes (now (values .entry)) marks counts entries (now (work .entry)) (now (claims .entry)))
+        → StoreAnswer x (now (values .exit)) (now (work .exit)) (now (claims .exit))) ⌝ }
 {
-    if stores::store_all(nodes, entries, values, work, claims) {
+    if stores::store_all(values, work, claims) {
         expressions::next_moment(work);
     }
 }
@@ -86,7 +79,7 @@ fn advance(
     counts: &mut [u16],
     entries: &[u16],
     work: &mut [u16; WORK],
-    claims: &[u16; CLAIMS],
+    claims: &mut [u16; CLAIMS],
 ) -> u16
     requires { ⌜ ((marks₀ : List ℕ)
         × Started (now exprs) (now nodes) (now values) marks₀ (now counts) (now entries) (now work) (now claims)) ⌝ }
@@ -94,15 +87,16 @@ fn advance(
     ensures { λ r. ⌜ ((marks₀ : List ℕ)
         (x : Started (now (exprs .entry)) (now (nodes .entry)) (now (values .entry)) marks₀ (now (counts .entry))
         (now (entries .entry)) (now (work .entry)) (now (claims .entry)))
-        → AdvanceAnswer x r (now (values .exit)) (now (marks .exit)) (now (counts .exit)) (now (work .exit))) ⌝ }
+        → AdvanceAnswer x r (now (values .exit)) (now (marks .exit)) (now (counts .exit)) (now (work .exit))
+        (now (claims .exit))) ⌝ }
 {
-    store(exprs, nodes, values, entries, work, claims);
+    store(values, work, claims);
     work[TALLY] = 0;
     visits::visit_all(nodes, exprs, work, marks, counts, claims, entries);
     if work[LOOPED] == 0 {
         return 0;
     }
-    stores::restore_all(nodes, entries, values, claims);
+    stores::restore_all(values, claims);
     undo::undo_walks(nodes, entries, marks, counts);
     10
 }

@@ -21,7 +21,7 @@ ghost use Rattle.player.specs.Work.{Formulas, Memo, Worked, WorkedTo, Ke
 
 // How many expressions may be worked inside one another. Where it takes more, all up to one of them are worked from left
 // to right.
-const NESTED_MAX: u16 = 48;
+const NESTED_MAX: u16 = 32;
 
 // ---- moments
 
@@ -117,8 +117,56 @@ pub fn value(exprs: &[u16], work: &mut [u16; WORK], e: u16) -> u16
     worked_value(exprs, work, NESTED_MAX, e)
 }
 
-// The same inside another expression, where so many more may be worked inside one another. It is a function beside
-// `value` so that `worked_value`, which both call, stays one: then an operand that is at hand is read without a call.
+// A number's or a variable's value; of any other expression nothing is read.
+fn plain(exprs: &[u16], work: &[u16; WORK], e: u16) -> AtHand
+    requires { ⌜ e < exprCount (now exprs) ⌝ }
+    requires { ⌜ ((values : List ℕ) × Formulas (now exprs) values × Memo (now exprs) values (now work)) ⌝ }
+    ensures { λ r. ⌜ ((values : List ℕ) → Formulas (now (exprs .entry)) values
+        → Memo (now (exprs .entry)) values (now (work .entry))
+        → Handed (now (exprs .entry)) values e (r .known) (r .value)) ⌝ }
+{
+    let p = p_of(exprs, e);
+    match op_of(exprs, e) {
+        NUMBER => AtHand {
+            known: true,
+            value: p,
+        },
+        VARIABLE => AtHand {
+            known: true,
+            value: value_of_variable(work, VarId(p)),
+        },
+        _ => AtHand {
+            known: false,
+            value: 0,
+        },
+    }
+}
+
+// The value of expression e at the present moment, where a step on numbers and variables alone is made in place: that is
+// as quick as to look whether it was made before, so it is not noted. Conditions use `value`: there the larger code costs
+// more than it gains.
+pub fn right_side(exprs: &[u16], work: &mut [u16; WORK], e: u16) -> u16
+    requires { ⌜ e < exprCount (now exprs) ⌝ }
+    requires { ⌜ ((values : List ℕ) × Formulas (now exprs) values × Memo (now exprs) values (now work)) ⌝ }
+    ensures { λ r. ⌜ ((values : List ℕ) → Formulas (now (exprs .entry)) values
+        → Memo (now (exprs .entry)) values (now (work .entry))
+        → Worked (now (exprs .entry)) values (now (work .entry)) (now (work .exit)) e r) ⌝ }
+{
+    let own = plain(exprs, work, e);
+    if own.known {
+        return own.value;
+    }
+    let x = plain(exprs, work, p_of(exprs, e));
+    let y = plain(exprs, work, q_of(exprs, e));
+    if x.known & y.known {
+        return program::apply_op(op_of(exprs, e), x.value, y.value);
+    }
+    value(exprs, work, e)
+}
+
+// What `value` gives, inside another expression, where so many more may be worked inside one another. It is a function
+// beside `value` so that `worked_value`, which both call, stays one: then an operand that is at hand is read without a
+// call.
 fn operand_value(exprs: &[u16], work: &mut [u16; WORK], nested: u16, e: u16) -> u16
     requires { ⌜ e < exprCount (now exprs) ⌝ }
     requires { ⌜ ((values : List ℕ) × Formulas (now exprs) values × Memo (now exprs) values (now work)) ⌝ }
@@ -197,7 +245,8 @@ fn work_next(exprs: &[u16], work: &mut [u16; WORK], i: u16, last: u16) -> u16
     value
 }
 
-// The value of expression i, likewise.
+// The value of expression i, likewise. Tests in place of a match: nearly all expressions that are worked in this pass have
+// two operands, and one test tells them.
 fn next_value(exprs: &[u16], work: &[u16; WORK], i: u16, last: u16) -> u16
     requires { ⌜ i < exprCount (now exprs) ⌝ }
     requires { ⌜ ((values : List ℕ) × Formulas (now exprs) values × WorkedTo (now exprs) values (now work) i last) ⌝ }
@@ -207,14 +256,14 @@ fn next_value(exprs: &[u16], work: &[u16; WORK], i: u16, last: u16) -> u16
 {
     let p = p_of(exprs, i);
     let op = op_of(exprs, i);
-    match op {
-        NUMBER => p,
-        VARIABLE => value_of_variable(work, VarId(p)),
-        _ => {
-            let y = before(work, q_of(exprs, i), i, last);
-            program::apply_op(op, before(work, p, i, last), y)
+    if op <= VARIABLE {
+        if op == NUMBER {
+            return p;
         }
+        return value_of_variable(work, VarId(p));
     }
+    let y = before(work, q_of(exprs, i), i, last);
+    program::apply_op(op, before(work, p, i, last), y)
 }
 
 // The value of an expression p before expression i: that of the one right before it need not be read back.

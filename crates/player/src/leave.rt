@@ -93,7 +93,8 @@ fn after_body(
 
 // One turn: node i, which is not node 0, is left. Gives the node that the next turn leaves, or 0 where the climb is over:
 // leaving node 0, which has no parent, does nothing. A PAR counts one thread fewer, and is left with the last. A leaf is no
-// parent, and an accepted program has no other kind.
+// parent, and an accepted program has no other kind. SEQ and PAR are one range with a test inside, so that the compiler
+// tells all kinds by tests: a jump through a table is mispredicted where kinds alternate on the way up.
 fn turn(
     nodes: &[u16],
     exprs: &[u16],
@@ -113,13 +114,16 @@ fn turn(
         r (now (marks .exit)) (now (counts .exit)) (now (work .exit))) ⌝ }
 {
     let h = work[PARENTS + (i as usize)];
-    match records::kind_of(nodes, h) {
-        SEQ => after_child(nodes, exprs, work, marks, counts, i, h),
-        PAR => {
+    let kind = records::kind_of(nodes, h);
+    match kind {
+        IF..=WHL => after_body(nodes, exprs, work, marks, counts, h),
+        SEQ..=PAR => {
+            if kind == SEQ {
+                return after_child(nodes, exprs, work, marks, counts, i, h);
+            }
             threads::lower(counts, h);
             if_finished(threads::outcome(counts, h), h)
         }
-        IF..=WHL => after_body(nodes, exprs, work, marks, counts, h),
         ASG..=OUT | DLY => 0,
         _ => 0,
     }

@@ -3,8 +3,9 @@
 use crate::channels;
 use crate::claims;
 use crate::claims::CLAIMS;
-use crate::claims::NEW;
-use crate::claims::OLD;
+use crate::claims::HELD;
+use crate::claims::STORES;
+use crate::claims::TARGETS;
 use crate::claims::WRITERS;
 use crate::expressions;
 use crate::records;
@@ -16,17 +17,15 @@ ghost use mathlib.Core.Path.{_≡_};
 ghost use mathlib.Core.Bool.{true, not};
 ghost use mathlib.Core.List.{List};
 ghost use mathlib.Core.Option.{some};
-ghost use Prim.Native.Nat.{ℕ, _+_, _≤_, _<_};
+ghost use Prim.Native.Nat.{ℕ, _+_, _<_};
 ghost use lib.Dec.{eqb};
 ghost use lib.ListN.{length, getD, set};
 ghost use Rattle.semantics.specs.Program.{nodeCount};
 ghost use Rattle.semantics.specs.Completion.{stores, source};
-ghost use Rattle.semantics.specs.Cycle.{newValues};
-ghost use Rattle.player.specs.Begin.{stateOf};
 ghost use Rattle.player.specs.Work.{Memo};
 ghost use Rattle.player.specs.Claims.{Claim, Aged};
-ghost use Rattle.player.specs.Channels.{CycleOf, PairedEntry, Unwritten, program};
-ghost use Rattle.player.specs.Stores.{targetAt, Storing, StoringTo, EntryWorked, RightSides, Pending, Stored};
+ghost use Rattle.player.specs.Channels.{PairedEntry, Unwritten, program};
+ghost use Rattle.player.specs.Stores.{targetAt, takenBack, HeldFit, Storing, StoringTo, EntryWorked, RightSides, Stored};
 
 // Whether node i, a marked one, stores: an ASG, or an IN that an OUT is marked for.
 fn stores(nodes: &[u16], claims: &[u16; CLAIMS], i: u16) -> bool
@@ -73,51 +72,51 @@ fn source(nodes: &[u16], claims: &[u16; CLAIMS], i: u16) -> u16
 
 // Whether no node before it stores to the variable; then node i claims it.
 fn claim(claims: &mut [u16; CLAIMS], variable: VarId, i: u16) -> bool
-    requires { ⌜ (variable .0 < 256) × (length (now claims) ≡ 2049) ⌝ }
+    requires { ⌜ (variable .0 < 256) × (length (now claims) ≡ 3586) ⌝ }
     ensures { λ r. ⌜ Claim (now (claims .entry)) (now (claims .exit)) 512 (variable .0) i r ⌝ }
 {
     claims::claim(claims, WRITERS, variable.0, i)
 }
 
-// The new value of a variable, and its old one.
-fn hold(claims: &mut [u16; CLAIMS], work: &[u16; WORK], variable: VarId, value: u16)
-    requires { ⌜ (variable .0 < 256) × (length (now claims) ≡ 2049) ⌝ }
-    ensures { λ _. ⌜ now (claims .exit) ≡ set (set (now (claims .entry)) (1536 + variable .0) value)
-        (1792 + variable .0) (getD (now (work .entry)) (variable .0) 0) ⌝ }
+// Store n of the cycle: its variable and its value.
+fn hold(claims: &mut [u16; CLAIMS], n: u16, variable: VarId, value: u16)
+    requires { ⌜ (n < 1024) × (length (now claims) ≡ 3586) ⌝ }
+    ensures { λ _. ⌜ now (claims .exit)
+        ≡ set (set (now (claims .entry)) (1536 + n) (variable .0)) (2560 + n) value ⌝ }
 {
-    let at = variable.0 as usize;
-    claims[NEW + at] = value;
-    claims[OLD + at] = work[at];
+    let at = n as usize;
+    claims[TARGETS + at] = variable.0;
+    claims[HELD + at] = value;
 }
 
-// Entry k of a cycle: if it stores, it claims its variable, and where that was free, its right side is worked.
+// Node i, which stores, claims its variable, and where that was free, its right side is worked: store n of the cycle.
 fn work_right_side(
     nodes: &[u16],
     exprs: &[u16],
     work: &mut [u16; WORK],
     claims: &mut [u16; CLAIMS],
     i: u16,
+    n: u16,
 ) -> bool
-    requires { ⌜ ((entries : List ℕ) × (values : List ℕ) × (k : ℕ) × StoringTo (now exprs) (now nodes) values entries k i (now claims)
-        × Memo (now exprs) values (now work)) ⌝ }
+    requires { ⌜ ((entries : List ℕ) × (values : List ℕ) × (k : ℕ) × (x : StoringTo (now exprs) (now nodes) values entries n k i (now claims))
+        × (stores (program (x .cycle)) (x .cycle .marks) i ≡ true) × Memo (now exprs) values (now work)) ⌝ }
     ensures { λ r. ⌜ ((entries values : List ℕ) (k : ℕ)
-        (x : StoringTo (now (exprs .entry)) (now (nodes .entry)) values entries k i (now (claims .entry)))
+        (x : StoringTo (now (exprs .entry)) (now (nodes .entry)) values entries n k i (now (claims .entry)))
+        → stores (program (x .cycle)) (x .cycle .marks) i ≡ true
         → Memo (now (exprs .entry)) values (now (work .entry))
         → EntryWorked x (now (work .entry)) r (now (work .exit)) (now (claims .exit))) ⌝ }
 {
-    if !stores(nodes, claims, i) {
-        return true;
-    }
     let variable = target(nodes, i);
     if !claim(claims, variable, i) {
         return false;
     }
-    let value = expressions::value(exprs, work, source(nodes, claims, i));
-    hold(claims, work, variable, value);
+    let value = expressions::right_side(exprs, work, source(nodes, claims, i));
+    hold(claims, n, variable, value);
     true
 }
 
-// Question 9 of all entries, and their right sides, all in the old values.
+// Question 9 of all entries, and their right sides, all in the old values. The stores of the cycle are listed, so that
+// making them and taking them back goes over them alone.
 pub fn work_right_sides(
     nodes: &[u16],
     exprs: &[u16],
@@ -127,92 +126,97 @@ pub fn work_right_sides(
 ) -> bool
     requires { ⌜ ((values : List ℕ) × Storing (now exprs) (now nodes) values (now entries) (now claims)
         × Memo (now exprs) values (now work)) ⌝ }
-    requires { ⌜ Unwritten (now claims) × Aged (now claims) (getD (now claims) 2048 0) ⌝ }
+    requires { ⌜ Unwritten (now claims) × Aged (now claims) (getD (now claims) 3584 0) ⌝ }
     ensures { λ r. ⌜ ((values : List ℕ)
         (x : Storing (now (exprs .entry)) (now (nodes .entry)) values (now (entries .entry)) (now (claims .entry)))
         → Memo (now (exprs .entry)) values (now (work .entry))
         → RightSides (x .cycle) values (now (work .entry)) (now (claims .entry)) r (now (work .exit))
         (now (claims .exit))) ⌝ }
 {
+    let mut n: u16 = 0;
     let mut k: usize = 0;
     while k < entries.len() {
-        if !work_right_side(nodes, exprs, work, claims, entries[k]) {
-            return false;
+        let i = entries[k];
+        if stores(nodes, claims, i) {
+            if !work_right_side(nodes, exprs, work, claims, i, n) {
+                return false;
+            }
+            n += 1;
         }
         k += 1;
     }
+    claims[STORES] = n;
     true
 }
 
 // ---- the stores
 
-// The one place that stores. Whether the value changed.
-fn store_one(values: &mut [u16], work: &mut [u16; WORK], variable: VarId, value: u16) -> bool
-    requires { ⌜ (variable .0 < length (now values)) × (variable .0 < 256) ⌝ }
-    ensures { λ r. ⌜ r ≡ not (eqb (getD (now (values .entry)) (variable .0) 0) value) ⌝ }
-    ensures { λ _. ⌜ now (values .exit) ≡ set (now (values .entry)) (variable .0) value ⌝ }
-    ensures { λ _. ⌜ now (work .exit) ≡ set (now (work .entry)) (variable .0) value ⌝ }
+// The variable of store n, and the value that is held for it.
+fn held_target(claims: &[u16; CLAIMS], n: u16) -> VarId
+    requires { ⌜ n < 1024 ⌝ }
+    ensures { λ r. ⌜ r .0 ≡ getD (now (claims .entry)) (1536 + n) 0 ⌝ }
 {
+    VarId(claims[TARGETS + (n as usize)])
+}
+
+fn held_value(claims: &[u16; CLAIMS], n: u16) -> u16
+    requires { ⌜ n < 1024 ⌝ }
+    ensures { λ r. ⌜ r ≡ getD (now (claims .entry)) (2560 + n) 0 ⌝ }
+{
+    claims[HELD + (n as usize)]
+}
+
+// The one place that stores: store n, whose old value is held from then on. Whether the value changed.
+fn store_one(values: &mut [u16], work: &mut [u16; WORK], claims: &mut [u16; CLAIMS], n: u16) -> bool
+    requires { ⌜ (n < 1024) × (getD (now claims) (1536 + n) 0 < length (now values))
+        × (getD (now claims) (1536 + n) 0 < 256) ⌝ }
+    ensures { λ r. ⌜ r ≡ not (eqb (getD (now (values .entry)) (getD (now (claims .entry)) (1536 + n) 0) 0)
+        (getD (now (claims .entry)) (2560 + n) 0)) ⌝ }
+    ensures { λ _. ⌜ now (values .exit) ≡ set (now (values .entry)) (getD (now (claims .entry)) (1536 + n) 0)
+        (getD (now (claims .entry)) (2560 + n) 0) ⌝ }
+    ensures { λ _. ⌜ now (work .exit) ≡ set (now (work .entry)) (getD (now (claims .entry)) (1536 + n) 0)
+        (getD (now (claims .entry)) (2560 + n) 0) ⌝ }
+    ensures { λ _. ⌜ now (claims .exit) ≡ set (now (claims .entry)) (2560 + n)
+        (getD (now (values .entry)) (getD (now (claims .entry)) (1536 + n) 0) 0) ⌝ }
+{
+    let variable = held_target(claims, n);
+    let value = held_value(claims, n);
     let at = variable.0 as usize;
     let old = values[at];
     values[at] = value;
     work[at] = value;
+    claims[HELD + (n as usize)] = old;
     old != value
 }
 
-// A value that is held for a variable.
-fn held(claims: &[u16; CLAIMS], part: usize, variable: VarId) -> u16
-    requires { ⌜ (variable .0 < 256) × (part ≤ 1792) ⌝ }
-    ensures { λ r. ⌜ r ≡ getD (now (claims .entry)) (part + variable .0) 0 ⌝ }
-{
-    claims[part + (variable.0 as usize)]
-}
-
-// The stores of all entries. Whether any value changed.
-pub fn store_all(
-    nodes: &[u16],
-    entries: &[u16],
-    values: &mut [u16],
-    work: &mut [u16; WORK],
-    claims: &[u16; CLAIMS],
-) -> bool
-    requires { ⌜ ((x : CycleOf (now nodes) (now entries)) × Pending x (now values) (now claims)) ⌝ }
+// All stores of the cycle. Whether any value changed.
+pub fn store_all(values: &mut [u16], work: &mut [u16; WORK], claims: &mut [u16; CLAIMS]) -> bool
+    requires { ⌜ HeldFit (now values) (now claims) ⌝ }
     requires { ⌜ (length (now work) ≡ 3331)
         × ((v : ℕ) → v < length (now values) → getD (now work) v 0 ≡ getD (now values) v 0) ⌝ }
-    ensures { λ r. ⌜ ((x : CycleOf (now (nodes .entry)) (now (entries .entry)))
-        → Pending x (now (values .entry)) (now (claims .entry))
-        → Stored x (now (values .entry)) (now (work .entry)) r (now (values .exit)) (now (work .exit))) ⌝ }
+    ensures { λ r. ⌜ Stored (now (values .entry)) (now (work .entry)) (now (claims .entry)) r (now (values .exit))
+        (now (work .exit)) (now (claims .exit)) ⌝ }
 {
+    let count = claims[STORES];
     let mut changed = false;
-    let mut k: usize = 0;
-    while k < entries.len() {
-        let i = entries[k];
-        if stores(nodes, claims, i) {
-            let variable = target(nodes, i);
-            let value = held(claims, NEW, variable);
-            changed = store_one(values, work, variable, value) | changed;
-        }
-        k += 1;
+    let mut n: u16 = 0;
+    while n < count {
+        changed = store_one(values, work, claims, n) | changed;
+        n += 1;
     }
     changed
 }
 
-// Takes the stores back. What `work` has of the values stays as it is: no cycle follows.
-pub fn restore_all(nodes: &[u16], entries: &[u16], values: &mut [u16], claims: &[u16; CLAIMS])
-    requires { ⌜ ((x : CycleOf (now nodes) (now entries)) × (old : List ℕ) × Pending x old (now claims)
-        × (length (now values) ≡ length old)) ⌝ }
-    ensures { λ _. ⌜ ((x : CycleOf (now (nodes .entry)) (now (entries .entry))) (old counts : List ℕ)
-        → Pending x old (now (claims .entry))
-        → now (values .entry) ≡ newValues (program x) (stateOf old (x .marks) counts) (now (entries .entry))
-        → now (values .exit) ≡ old) ⌝ }
+// Takes the stores back, the last first. What `work` has of the values stays as it is: no cycle follows.
+pub fn restore_all(values: &mut [u16], claims: &[u16; CLAIMS])
+    requires { ⌜ HeldFit (now values) (now claims) ⌝ }
+    ensures { λ _. ⌜ now (values .exit)
+        ≡ takenBack (now (claims .entry)) (getD (now (claims .entry)) 3585 0) (now (values .entry)) ⌝ }
 {
-    let mut k: usize = 0;
-    while k < entries.len() {
-        let i = entries[k];
-        if stores(nodes, claims, i) {
-            let at = target(nodes, i).0 as usize;
-            values[at] = claims[OLD + at];
-        }
-        k += 1;
+    let mut n = claims[STORES];
+    while 0 < n {
+        n -= 1;
+        let at = held_target(claims, n).0 as usize;
+        values[at] = held_value(claims, n);
     }
 }

@@ -1,39 +1,35 @@
 -- `store` makes the stores, and where a value changed, a new moment follows.
-use mathlib.Core.Path.{_≡_}
 use borrow.Author.Needs.{needs}
-use borrow.Author.Tests.{not-false}
-use Rattle.player.specs.Cycle.{cycleOf}
 use Rattle.player.proofs.WorkLaws.{past-rewritten}
 use Rattle.player.proofs.AdvanceLaws.{stored-size, stored-moment, stored-same}
 use Rattle.player.proofs.cycle.store.Statement.{statement}
 use Rattle.player.proofs.cycle.store.Tie as tie
 
 abbrev start : tie.After-store-all → tie.Start
-start c = c .before .before .before .before .before .before .before
+start c = c .before .before .before .before .before
 
 store-all-requires : tie.Need-store-all-requires
 store-all-requires c κs =
-    let x = c .before .before .before .before .before .before .pre .2 in
-    ((cycleOf (x .from) (x .active), x .pending), (x .memo .size, x .memo .variables))
+    let x = c .before .before .before .before .pre .5 in
+    (x .pending .fit, (x .memo .size, x .memo .variables))
 
 next-moment-requires : tie.Need-next-moment-requires
 next-moment-requires c κs =
     let stored = c .before .before .before .before in
-    let x = start stored .pre .2 in
     let a = start stored .args in
-    let s = stored .store-all .ensures (cycleOf (x .from) (x .active)) (x .pending) in
-    (stored-size x s, past-rewritten (a .exprs .now) (a .values .now) (a .work .now) (stored .store-all .last .1 .1 .1 .0) (s .kept) (x .memo))
+    let x = start stored .pre .5 in
+    let s = stored .store-all .ensures in
+    (stored-size x s, past-rewritten _ (a .values .now) (a .work .now) (stored .store-all .last .1 .0) (s .kept) (x .memo))
 
 returns : tie.Need-returns
 returns c =
     let stored = c .before .before .before .before .before in
-    λ marks counts x. stored-moment x (stored .store-all .ensures (cycleOf (x .from) (x .active)) (x .pending))
-    (c .next-moment .ensures)
+    λ exprs nodes marks counts entries x. stored-moment x (stored .store-all .ensures) (c .next-moment .ensures)
 
 returns-2 : tie.Need-returns-2
 returns-2 c =
     let stored = c .before .before .before in
-    λ marks counts x. stored-same x (stored .store-all .ensures (cycleOf (x .from) (x .active)) (x .pending)) (c .if1 .left)
+    λ exprs nodes marks counts entries x. stored-same x (stored .store-all .ensures) (c .if1 .left)
 
 pub store-spec : {M : Type 1} → statement M
 store-spec =

@@ -103,7 +103,7 @@ Asked w vars chans =
 worked-cycle : (w : tie.After-work-cycle Inv-loop μ-loop) (vars chans : ℕ) → Asked w vars chans
     → let l = looped (called w) .loop in
     WorkedCycle (program w vars chans) (stateOf (l .values) (l .marks) (l .counts))
-    (drop (l .read) (start (called w) .args .book .now)) (set (l .claims) 2048 (l .worked + 1)) (w .work-cycle .result)
+    (drop (l .read) (start (called w) .args .book .now)) (set (l .claims) 3584 (l .worked + 1)) (w .work-cycle .result)
     (left w) (w .work-cycle .last .1 .1 .1 .1 .1 .1 .0) (w .work-cycle .last .1 .1 .1 .1 .1 .1 .1 .0)
 worked-cycle w vars chans r =
     let l = looped (called w) .loop in

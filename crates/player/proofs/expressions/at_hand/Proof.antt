@@ -1,10 +1,9 @@
 -- `at_hand` reads a number and a variable, and of any other expression what was worked at the present moment.
-use mathlib.Core.Path.{_≡_, sym, ap, _∙_}
-use mathlib.Core.Bool.{true, true≢false}
+use mathlib.Core.Path.{sym, _∙_}
 use native.Mathlib.Omega.{arith}
 use borrow.Author.Needs.{needs}
 use borrow.Author.Tests.{eqb-true}
-use Rattle.player.proofs.OperandLaws.{two-or-more, variable-place, value-of-number, right-by-variable}
+use Rattle.player.proofs.OperandLaws.{two-or-more, variable-place, number-handed, variable-handed}
 use Rattle.player.proofs.expressions.at_hand.Statement.{statement}
 use Rattle.player.proofs.expressions.at_hand.Tie as tie
 
@@ -27,13 +26,9 @@ returns : tie.Need-returns
 returns c =
     let start = c .before .before .before .before in
     let a = start .args in
+    let p = c .before .before .p-of in
     let op = sym (c .before .op-of .ensures) ∙ c .match .keys1 in
-    λ values f m.
-    record {
-      right = λ k. c .before .before .p-of .ensures
-          ∙ sym (value-of-number (a .exprs .now) values (a .e) (start .pre .0) op);
-      two = λ k. absurd (true≢false k);
-    }
+    λ values f m. number-handed (a .exprs .now) values (a .e) (p .result) (start .pre .0) op (p .ensures)
 
 returns-2 : tie.Need-returns-2
 returns-2 c =
@@ -43,11 +38,8 @@ returns-2 c =
     let x = c .value-of-variable in
     let op = sym (c .before .before .op-of .ensures) ∙ c .before .match .keys2 in
     λ values f m.
-    record {
-      right = λ k. right-by-variable (a .exprs .now) values f (a .work .now) (a .e) (p .result) (x .result) m
-          (start .pre .0) op (p .ensures) (x .ensures);
-      two = λ k. absurd (true≢false k);
-    }
+    variable-handed (a .exprs .now) values f (a .work .now) (a .e) (p .result) (x .result) m (start .pre .0) op
+    (p .ensures) (x .ensures)
 
 returns-3 : tie.Need-returns-3
 returns-3 c =

@@ -1,30 +1,34 @@
--- `next_value` works an expression by its op, each arm by the law of that op; the operands' values are known, for all
+-- `next_value` works an expression by its op, each way by the law of that op; the operands' values are known, for all
 -- expressions before are worked.
-use mathlib.Core.Path.{sym, _∙_}
+use mathlib.Core.Path.{_≡_, sym, _∙_}
 use Prim.Native.Nat.{_*_, _≤_}
 use native.Mathlib.Omega.{arith}
 use lib.ListN.{getD}
 use borrow.Author.Needs.{needs}
 use Rattle.player.proofs.MomentLaws.{value-before}
-use Rattle.player.proofs.OperandLaws.{two-or-more, operands-before, variable-place}
+use Rattle.player.proofs.OperandLaws.{operands-before, variable-place}
 use Rattle.player.proofs.OperandLaws.{value-of-number, right-by-variable, right-by-operands}
 use Rattle.player.proofs.expressions.next_value.Statement.{statement}
 use Rattle.player.proofs.expressions.next_value.Tie as tie
 
+-- an op up to VARIABLE that is not NUMBER
+variable : (c : tie.Else2) → let a = c .before .before .before .before .before .args in
+    getD (a .exprs .now) (3 * a .i) 0 ≡ 1
+variable c = let op = c .before .before .op-of .ensures in omega arith
+
 value-of-variable-requires : tie.Need-value-of-variable-requires
 value-of-variable-requires c κs =
-    let start = c .before .before .before .before in
+    let start = c .before .before .before .before .before in
     let (l, (values, f, w)) = start .pre in
-    let op = sym (c .before .op-of .ensures) ∙ c .match .keys2 in
-    variable-place (start .args .exprs .now) values f (start .args .i) (c .before .before .p-of .result) l op
-    (c .before .before .p-of .ensures)
+    let p = c .before .before .before .p-of in
+    variable-place (start .args .exprs .now) values f (start .args .i) (p .result) l (variable c) (p .ensures)
 
 abbrev atStart : tie.After-q-of → tie.Start
 atStart c = c .before .before .before .before .before
 
 -- the op has two operands
 two : (c : tie.After-q-of) → let a = atStart c .args in 2 ≤ getD (a .exprs .now) (3 * a .i) 0
-two c = two-or-more _ _ (c .before .before .op-of .ensures) (c .before .match .rest .0 .1) (c .before .match .rest .1)
+two c = let op = c .before .before .op-of .ensures in omega arith
 
 before-requires : tie.Need-before-requires
 before-requires c κs =
@@ -46,19 +50,21 @@ before-requires-2 c κs =
 
 returns : tie.Need-returns
 returns c =
-    let start = c .before .before .before .before in
+    let start = c .before .before .before .before .before in
     let a = start .args in
-    let op = sym (c .before .op-of .ensures) ∙ c .match .keys1 in
-    λ values f w. c .before .before .p-of .ensures ∙ sym (value-of-number (a .exprs .now) values (a .i) (start .pre .0) op)
+    let op = sym (c .before .before .op-of .ensures) ∙ c .if2 .taken in
+    λ values f w. c .before .before .before .p-of .ensures
+    ∙ sym (value-of-number (a .exprs .now) values (a .i) (start .pre .0) op)
 
 returns-2 : tie.Need-returns-2
 returns-2 c =
-    let start = c .before .before .before .before .before in
+    let start = c .before .before .before .before .before .before in
     let a = start .args in
-    let op = sym (c .before .before .op-of .ensures) ∙ c .before .match .keys2 in
-    λ values f w. right-by-variable (a .exprs .now) values f (a .work .now) (a .i)
-    (c .before .before .before .p-of .result) (c .value-of-variable .result) (w .memo) (start .pre .0) op
-    (c .before .before .before .p-of .ensures) (c .value-of-variable .ensures)
+    let p = c .before .before .before .before .p-of in
+    let x = c .value-of-variable in
+    λ values f w.
+    right-by-variable (a .exprs .now) values f (a .work .now) (a .i) (p .result) (x .result) (w .memo) (start .pre .0)
+    (variable (c .before)) (p .ensures) (x .ensures)
 
 returns-3 : tie.Need-returns-3
 returns-3 c =
@@ -90,11 +96,11 @@ next-value-spec =
     (tie.spec
     (λ c κs. search needs)
     (λ c κs. search needs)
+    returns
     value-of-variable-requires
+    returns-2
     (λ c κs. search needs)
     before-requires
     before-requires-2
     (λ c κs. search needs)
-    returns
-    returns-2
     returns-3)
