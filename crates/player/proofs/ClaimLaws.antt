@@ -4,16 +4,15 @@ use mathlib.Core.Path.{_≡_, refl, sym, ap, _∙_, subst}
 use mathlib.Core.Bool.{Bool, true, false, cond, not, _&&_, _||_, true≢false}
 use mathlib.Core.List.{List, [], _∷_, _++_, append-nil}
 use mathlib.Core.Logic.{_≢_}
-use Prim.Native.Nat.{ℕ, zero, suc, _+_, _≤_, _<_}
+use Prim.Native.Nat.{ℕ, suc, _+_, _≤_, _<_}
 use native.Mathlib.Nat.{le-refl}
 use native.Mathlib.Numerals.{add-one}
 use native.Mathlib.Omega.{arith}
 use lib.Dec.{eqb}
 use lib.ListN.{length, getD, take, drop, length-append}
-use lib.Seq.{take-all, take-suc, split-at, getD-take, length-take-le}
+use lib.Seq.{take-all, take-suc, split-at}
 use borrow.Author.Tests.{eqb-true, eqb-false, eq-eqb}
 use Rattle.semantics.specs.Numbers.{filter}
-use Rattle.semantics.proofs.Lists.Logic.{both}
 use Rattle.semantics.proofs.Lists.NumberLaws.{length-filter}
 use Rattle.player.specs.Claims.{rankOf, rankIn, isFree, Claimed, wants, Claims}
 
@@ -32,20 +31,6 @@ filter-append f (x ∷ xs) ys = pick (f x) (filter-append f xs ys)
 filter-last : (f : ℕ → Bool) (xs : List ℕ) (x : ℕ) → filter f (xs ++ x ∷ []) ≡ filter f xs ++ cond (f x) (x ∷ []) []
 unfolding filter
 filter-last f xs x = filter-append f xs (x ∷ [])
-
--- where a number passes, there are some that pass
-filter-some : (f : ℕ → Bool) (xs : List ℕ) (j : ℕ) → j < length xs → f (getD xs j 0) ≡ true → filter f xs ≢ []
-unfolding filter
-filter-some f [] j l h none = omega arith
-filter-some f (x ∷ xs) zero l h none =
-    let first : filter f (x ∷ xs) ≡ x ∷ filter f xs = rw h in
-    let z : _≡_ {A = ℕ} 0 1 = cc in
-    omega arith
-filter-some f (x ∷ xs) (suc j) l h none = pick (f x) (filter-some f xs j (omega arith) h) none
-  where
-    pick : (b : Bool) → (filter f xs ≡ [] → ⊥) → cond b (x ∷ filter f xs) (filter f xs) ≡ [] → ⊥
-    pick true later e = let z : _≡_ {A = ℕ} 0 1 = cc in omega arith
-    pick false later e = later e
 
 no-rank : (xs : List ℕ) → rankOf xs ≡ 0 → xs ≡ []
 no-rank [] e = refl
@@ -140,17 +125,6 @@ module _ (uses : ℕ → Bool) (key : ℕ → ℕ) (part : ℕ) where
     claims-refused claims h inside taken =
         let (used, two) = claims-clash (take k entries) claims entry (drop (suc k) entries) h inside taken in
         (used, subst (λ (xs : List ℕ). 2 ≤ length (wanting (key entry) xs)) (sym (split-at entries k 0 l)) two)
-
-    -- no entry before it wants a slot that is free
-    pub claims-apart : (claims : List ℕ) → Claims uses key part (take k entries) claims
-        → key entry < 256 → rankIn claims part (key entry) ≡ 0
-        → (j : ℕ) → j < k → uses (getD entries j 0) ≡ true → key (getD entries j 0) ≢ key entry
-    claims-apart claims h inside free j m used same =
-        let at = getD-take k entries j 0 m in
-        let short = length-take-le k entries (omega arith) in
-        let wanted = both used (eq-eqb (key (getD entries j 0)) (key entry) same) in
-        filter-some (wants uses key part (key entry)) (take k entries) j (omega arith)
-        (rw at wanted) (no-rank _ (sym (h (key entry) .rank inside) ∙ free))
 
   pub claims-all : (entries claims : List ℕ) (k : ℕ) → length entries ≤ k
       → Claims uses key part (take k entries) claims → Claims uses key part entries claims

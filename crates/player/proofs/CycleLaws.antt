@@ -18,7 +18,7 @@ use Rattle.semantics.specs.State.{marked, markCount, active}
 use Rattle.semantics.specs.Completion.{isAsg, isIn, isOut}
 use Rattle.semantics.proofs.Lists.Logic.{and-left, and-right}
 use Rattle.semantics.proofs.Lists.NumberLaws.{filter-filter}
-use Rattle.semantics.proofs.Run.EntriesLaws.{active-means, active-once, timesIn}
+use Rattle.semantics.proofs.Run.EntriesLaws.{active-means}
 use Rattle.semantics.proofs.Lists.ActiveLaws.{marked-below}
 use Rattle.semantics.proofs.Run.CrossOut.{markCount-cons}
 use Rattle.semantics.proofs.Run.EntryCounts.{entry-count}
@@ -27,18 +27,6 @@ use Rattle.player.specs.Work.{Formulas}
 use Rattle.player.specs.Channels.{CycleOf, PairedEntry, program, hasKind}
 
 -- ---- what passes a test
-
-filter-index : (f : ℕ → Bool) (xs : List ℕ) → 1 ≤ length (filter f xs)
-    → (k : ℕ) × (k < length xs) × (f (getD xs k 0) ≡ true)
-unfolding filter
-filter-index f [] l = absurd (omega arith)
-filter-index f (x ∷ xs) l = pick (f x) refl l (filter-index f xs)
-  where
-    pick : (b : Bool) → f x ≡ b → 1 ≤ length (cond b (x ∷ filter f xs) (filter f xs))
-        → (1 ≤ length (filter f xs) → (k : ℕ) × (k < length xs) × (f (getD xs k 0) ≡ true))
-        → (k : ℕ) × (k < suc (length xs)) × (f (getD (x ∷ xs) k 0) ≡ true)
-    pick true e l later = (0, omega arith, e)
-    pick false e l later = let (k, m, h) = later l in (suc k, omega arith, h)
 
 filter-first : (f : ℕ → Bool) (xs : List ℕ) (y : ℕ) (ys : List ℕ) → filter f xs ≡ y ∷ ys → f y ≡ true
 unfolding filter
@@ -85,13 +73,6 @@ module _ {nodes entries : List ℕ} (x : CycleOf nodes entries) where
       let fit = x .marksFit in
       let nodes-fit = x .accepted .sizes .nodesFit in
       omega arith
-
-  pub marked-entry : (i : ℕ) → marked (x .marks) i ≡ true
-      → (k : ℕ) × (k < length entries) × (getD entries k 0 ≡ i)
-  marked-entry i m =
-      let once : timesIn i entries ≡ 1 = active-once (x .marks) entries (x .entriesActive) i ∙ rw m in
-      let (k, l, e) = filter-index (λ e. eqb e i) entries (omega arith) in
-      (k, l, eqb-true (getD entries k 0) i e)
 
   -- at most one active statement passes a test when at most one entry does
   pub single-entries : (f : ℕ → Bool)

@@ -94,7 +94,7 @@ fn after_body(
 // One turn: node i, which is not node 0, is left. Gives the node that the next turn leaves, or 0 where the climb is over:
 // leaving node 0, which has no parent, does nothing. A PAR counts one thread fewer, and is left with the last. A leaf is no
 // parent, and an accepted program has no other kind. SEQ and PAR are one range with a test inside, so that the compiler
-// tells all kinds by tests: a jump through a table is mispredicted where kinds alternate on the way up.
+// tells all kinds by tests: a jump through a table makes a deep climb slower.
 fn turn(
     nodes: &[u16],
     exprs: &[u16],
