@@ -7,7 +7,7 @@ use Prim.Native.Nat.{ℕ, _+_, _≤_, _<_}
 use native.Mathlib.Omega.{arith}
 use lib.Dec.{eqb}
 use lib.ListN.{length, getD, take, replicate}
-use lib.Seq.{take-all, length-take-le, getD-take}
+use lib.Seq.{take-all}
 use borrow.Author.Tests.{eq-eqb, ne-eqb}
 use Rattle.semantics.specs.Completion.{channelsFree, targetsApart}
 use Rattle.semantics.specs.Cycle.{areActive}
@@ -18,7 +18,7 @@ use Rattle.player.specs.Channels.{Pairing}
 use Rattle.player.specs.Stores.{Storing, RightSides}
 use Rattle.player.specs.Cycle.{CycleFrom, cycleOf, Carried, Started, AskAnswer, programFrom}
 use Rattle.player.proofs.UndoLaws.{formed-bits}
-use Rattle.player.proofs.EntryLaws.{active-crossable, crossable-most, crossable-below, marked-again, all-crossed}
+use Rattle.player.proofs.EntryLaws.{active-crossable, crossable-most, crossed-back, all-crossed}
 
 module _ {exprs nodes values marks counts entries : List ℕ} (x : CycleFrom exprs nodes values marks counts entries)
   where
@@ -40,41 +40,21 @@ module _ {exprs nodes values marks counts entries : List ℕ} (x : CycleFrom exp
         ap (setAll 0 marks) (take-all r entries l)
         ∙ all-crossed marks entries (is-active (subst (λ (n : ℕ). length entries ≤ n) e l)) (formed-bits (programFrom x) (stateOf values marks counts) (x .formed))
 
-    -- the first r entries, those that are crossed out, are nodes
-    pub part-length : (r : ℕ) → r ≡ crossable marks entries → r ≡ length (take r entries)
-    part-length r e =
-        let most = crossable-most marks entries in
-        sym (length-take-le r entries (omega arith))
-
-    pub part-inside : (r : ℕ) → r ≡ crossable marks entries → (k : ℕ) → k < length (take r entries)
-        → getD (take r entries) k 0 < length marks
-    part-inside r e k l =
-        let same = part-length r e in
-        let here = getD-take r entries k 0 (omega arith) in
-        let inside = crossable-below marks entries k (omega arith) in
-        omega arith
-
-    -- what was crossed out is marked again, of the first r entries or of all
-    pub crossed-back : (r : ℕ) → r ≡ crossable marks entries
-        → setAll 1 (setAll 0 marks (take r entries)) (take r entries) ≡ marks
-    crossed-back r e =
-        subst (λ (n : ℕ). setAll 1 (setAll 0 marks (take n entries)) (take n entries) ≡ marks) (sym e)
-        (marked-again marks entries)
-
+    -- and marked again
     pub marked-back : (r : ℕ) → r ≡ crossable marks entries → length entries ≤ r
         → setAll 1 (setAll 0 marks (take r entries)) entries ≡ marks
     marked-back r e l =
         subst (λ (es : List ℕ). setAll 1 (setAll 0 marks (take r entries)) es ≡ marks) (take-all r entries l)
-        (crossed-back r e)
+        (crossed-back marks entries r e)
 
     -- the channels are paired
     abbrev pub storing : (active : areActive marks entries ≡ true) {before claims : List ℕ}
-        → Pairing (cycleOf x active) true before claims → Storing exprs nodes values entries claims
+        → Pairing (cycleOf x active) before claims → Storing exprs nodes values entries claims
     storing active p = record {
       cycle = cycleOf x active;
       sameExprs = refl;
       valuesFit = x .fit .values;
-      paired = p .paired refl;
+      paired = p .paired;
     }
 
     module _ {claims₀ : List ℕ} where

@@ -12,10 +12,11 @@ use lib.ListN.{length, getD, drop}
 use lib.Seq.{drop-cons}
 use borrow.Author.Tests.{eqb-true}
 use Rattle.semantics.specs.Numbers.{below, upFrom, filter}
-use Rattle.semantics.specs.Program.{exprCount, nodeCount, kindOf, aAt, bAt}
+use Rattle.semantics.specs.Program.{Program, exprCount, nodeCount, kindOf, aAt, bAt}
 use Rattle.semantics.specs.Check.{referencesOk}
 use Rattle.semantics.specs.State.{marked, markCount, active}
 use Rattle.semantics.specs.Completion.{isAsg, isIn, isOut}
+use Rattle.semantics.specs.Facts.{Accepted}
 use Rattle.semantics.proofs.Lists.Logic.{and-left, and-right}
 use Rattle.semantics.proofs.Lists.NumberLaws.{filter-filter}
 use Rattle.semantics.proofs.Run.EntriesLaws.{active-means}
@@ -62,6 +63,38 @@ pub fold-next : {A : Type 0} (step : A → ℕ → A) (a : A) (entries : List �
     → foldl step a (drop k entries) ≡ foldl step (step a (getD entries k 0)) (drop (k + 1) entries)
 fold-next step a entries k l = rw (add-one k, drop-cons entries k 0 l)
 
+-- ---- the names of a node
+
+module _ {P : Program} (ok : Accepted P) (i : ℕ) (l : i < nodeCount (P .nodes)) where
+  abbrev word : ℕ
+  word = getD (P .nodes) (5 * i) 0
+
+  names : referencesOk P i ≡ true
+  names = ok .rangesOk i l
+
+  -- the channel of an IN or OUT
+  pub node-in-channel : hasKind (P .nodes) isIn i ≡ true → aAt (P .nodes) i < P .channels
+  node-in-channel k = in-names P word (aAt (P .nodes) i) (bAt (P .nodes) i) names k .0
+
+  pub node-out-channel : hasKind (P .nodes) isOut i ≡ true → aAt (P .nodes) i < P .channels
+  node-out-channel k = out-names P word (aAt (P .nodes) i) (bAt (P .nodes) i) names k .0
+
+  -- the variable of an ASG or IN
+  node-asg-variable : hasKind (P .nodes) isAsg i ≡ true → aAt (P .nodes) i < P .variables
+  node-asg-variable k = asg-names P word (aAt (P .nodes) i) (bAt (P .nodes) i) names k .0
+
+  node-in-variable : hasKind (P .nodes) isIn i ≡ true → bAt (P .nodes) i < P .variables
+  node-in-variable k = in-names P word (aAt (P .nodes) i) (bAt (P .nodes) i) names k .1
+
+  -- the expression of an ASG or OUT
+  node-asg-expression : hasKind (P .nodes) isAsg i ≡ true → bAt (P .nodes) i < exprCount (P .exprs)
+  node-asg-expression k = asg-names P word (aAt (P .nodes) i) (bAt (P .nodes) i) names k .1
+
+  node-out-expression : hasKind (P .nodes) isOut i ≡ true → bAt (P .nodes) i < exprCount (P .exprs)
+  node-out-expression k = out-names P word (aAt (P .nodes) i) (bAt (P .nodes) i) names k .1
+
+-- ---- the entries of a cycle
+
 module _ {nodes entries : List ℕ} (x : CycleOf nodes entries) where
   pub entry-marked : (k : ℕ) → k < length entries → marked (x .marks) (getD entries k 0) ≡ true
   entry-marked = active-means (x .marks) entries .0 (x .entriesActive) .eachMarked
@@ -83,28 +116,23 @@ module _ {nodes entries : List ℕ} (x : CycleOf nodes entries) where
     pub marked-node : i < nodeCount nodes
     marked-node = subst (λ (n : ℕ). i < n) (x .marksFit) (marked-below (x .marks) i m)
 
-    names : referencesOk (program x) i ≡ true
-    names = x .accepted .rangesOk i marked-node
-
-    -- the channel of an IN or OUT, the variable of an ASG or IN
     pub in-channel : hasKind nodes isIn i ≡ true → aAt nodes i < x .channels
-    in-channel k = in-names (program x) (getD nodes (5 * i) 0) (aAt nodes i) (bAt nodes i) names k .0
+    in-channel k = node-in-channel (x .accepted) i marked-node k
 
     pub out-channel : hasKind nodes isOut i ≡ true → aAt nodes i < x .channels
-    out-channel k = out-names (program x) (getD nodes (5 * i) 0) (aAt nodes i) (bAt nodes i) names k .0
+    out-channel k = node-out-channel (x .accepted) i marked-node k
 
     pub asg-variable : hasKind nodes isAsg i ≡ true → aAt nodes i < x .variables
-    asg-variable k = asg-names (program x) (getD nodes (5 * i) 0) (aAt nodes i) (bAt nodes i) names k .0
-
-    -- the expression of an ASG or OUT
-    pub asg-expression : hasKind nodes isAsg i ≡ true → bAt nodes i < exprCount (x .exprs)
-    asg-expression k = asg-names (program x) (getD nodes (5 * i) 0) (aAt nodes i) (bAt nodes i) names k .1
-
-    pub out-expression : hasKind nodes isOut i ≡ true → bAt nodes i < exprCount (x .exprs)
-    out-expression k = out-names (program x) (getD nodes (5 * i) 0) (aAt nodes i) (bAt nodes i) names k .1
+    asg-variable k = node-asg-variable (x .accepted) i marked-node k
 
     pub in-variable : hasKind nodes isIn i ≡ true → bAt nodes i < x .variables
-    in-variable k = in-names (program x) (getD nodes (5 * i) 0) (aAt nodes i) (bAt nodes i) names k .1
+    in-variable k = node-in-variable (x .accepted) i marked-node k
+
+    pub asg-expression : hasKind nodes isAsg i ≡ true → bAt nodes i < exprCount (x .exprs)
+    asg-expression k = node-asg-expression (x .accepted) i marked-node k
+
+    pub out-expression : hasKind nodes isOut i ≡ true → bAt nodes i < exprCount (x .exprs)
+    out-expression k = node-out-expression (x .accepted) i marked-node k
 
   -- there are at most 256 of each
   pub channel-fits : {c : ℕ} → c < x .channels → c < 256

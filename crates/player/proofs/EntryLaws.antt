@@ -1,16 +1,17 @@
 -- Question 7 as the code asks it. As many entries as there are marks are the active statements exactly when all of them
 -- can be crossed out; and marking again what was crossed out gives the marks back.
-use mathlib.Core.Path.{_≡_, refl, sym, ap, _∙_}
-use mathlib.Core.Bool.{Bool, true, cond, not}
+use mathlib.Core.Path.{_≡_, refl, sym, ap, _∙_, subst}
+use mathlib.Core.Bool.{Bool, true, false, cond, not}
 use mathlib.Core.List.{List, [], _∷_, _++_}
 use mathlib.Core.Logic.{inl, inr}
 use Prim.Native.Nat.{ℕ, zero, suc, _+_, _≤_, _<_, zero-le, suc-le-suc}
-use native.Mathlib.Nat.{le-of-suc-le-suc, suc-inj}
+use native.Mathlib.Nat.{zero-add, le-of-suc-le-suc, suc-inj}
 use native.Mathlib.Numerals.{add-one}
 use native.Mathlib.Omega.{arith}
 use lib.Dec.{eqb, leb, eqb·zero-suc, eqb·suc-suc}
-use lib.ListN.{length, getD, set, take, drop, replicate, length-set}
-use lib.Seq.{take-suc, take-length, take-all, drop-cons, getD-take, length-take-le, set-comm, set-set, set-getD}
+use lib.ListN.{length, getD, set, take, drop, replicate, length-set, drop-of-length-le}
+use lib.Seq.{take-suc, take-add, take-length, take-all, drop-cons, getD-take, length-take-le}
+use lib.Seq.{set-comm, set-set, set-getD}
 use borrow.Author.Tests.{eqb-true, eqb-false, eq-eqb, leb-true, not-true}
 use Rattle.semantics.specs.Numbers.{every}
 use Rattle.semantics.specs.State.{marked, markCount, marksAreBits}
@@ -18,7 +19,7 @@ use Rattle.semantics.specs.Cycle.{areActive}
 use Rattle.semantics.proofs.Lists.Logic.{and-left, and-right, both, cond-at, true-or-false}
 use Rattle.semantics.proofs.Lists.ActiveLaws.{marked-below}
 use Rattle.semantics.proofs.Run.CrossOut.{crossOut, markCount-cross, no-mark-count, active-crossOut}
-use Rattle.player.specs.Entries.{crossable, setAll}
+use Rattle.player.specs.Entries.{crossable, setAll, CrossedOut}
 
 -- ---- one word at every entry
 
@@ -72,6 +73,16 @@ pub set-whole : {word : ℕ} {start entries : List ℕ} {k : ℕ} {marks : List 
 set-whole {word} {start} {entries} {k} s l =
     s .right ∙ ap (λ (es : List ℕ). setAll word start es) (take-all k entries l)
 
+-- the next entries have the word too
+setAll-append : (word : ℕ) (marks es fs : List ℕ) → setAll word marks (es ++ fs) ≡ setAll word (setAll word marks es) fs
+setAll-append word marks [] fs = refl
+setAll-append word marks (e ∷ es) fs = setAll-append word (set marks e word) es fs
+
+pub setAll-more : (word : ℕ) (marks es : List ℕ) (a b : ℕ)
+    → setAll word (setAll word marks (take a es)) (take b (drop a es)) ≡ setAll word marks (take (a + b) es)
+setAll-more word marks es a b =
+    sym (ap (setAll word marks) (take-add a b es) ∙ setAll-append word marks (take a es) (take b (drop a es)))
+
 -- ---- how many entries can be crossed out
 
 pub crossable-most : (marks entries : List ℕ) → crossable marks entries ≤ length entries
@@ -119,6 +130,39 @@ crossable-below marks (e ∷ es) (suc j) l =
     let h = first-marked marks e es (suc j) l in
     rw (length-set marks e 0) at (crossable-below (set marks e 0) es j (le-of-suc-le-suc (rw h at l)))
 
+-- ---- entry by entry
+
+pub crossed-none : {entries marks : List ℕ} → CrossedOut entries marks 0 marks
+crossed-none = record { within = zero-le; sameLength = refl; right = refl; rest = sym (zero-add _) }
+
+module _ {entries start : List ℕ} {k : ℕ} {marks : List ℕ} (h : CrossedOut entries start k marks) where
+  -- all are crossed out
+  pub crossed-all : length entries ≤ k → k ≡ crossable start entries
+  unfolding crossable
+  crossed-all l = sym (h .rest ∙ rw (drop-of-length-le entries {i = k} l) (omega arith))
+
+  module _ (l : k < length entries) where
+    -- the next has no mark, or none any more
+    pub crossed-stops : marked marks (getD entries k 0) ≡ false → crossable marks (drop k entries) ≡ 0
+    crossed-stops m = crossable-next marks entries k l ∙ rw m
+
+    pub crossed-most : marked marks (getD entries k 0) ≡ false → k ≡ crossable start entries
+    crossed-most m = sym (h .rest ∙ rw (crossed-stops m) (omega arith))
+
+    -- the next is crossed out
+    pub crossed-next : marked marks (getD entries k 0) ≡ true
+        → CrossedOut entries start (k + 1) (set marks (getD entries k 0) 0)
+    crossed-next m =
+        let more : crossable marks (drop k entries)
+        ≡ suc (crossable (set marks (getD entries k 0) 0) (drop (k + 1) entries)) =
+        crossable-next marks entries k l ∙ rw m in
+        record {
+          within = omega arith;
+          sameLength = length-set marks (getD entries k 0) 0 ∙ h .sameLength;
+          right = set-one (record { within = h .within; sameLength = h .sameLength; right = h .right }) l .right;
+          rest = omega (arith, h .rest, more);
+        }
+
 -- ---- crossed out and marked again
 
 pub marked-again : (marks entries : List ℕ)
@@ -137,6 +181,23 @@ marked-again marks (e ∷ es) =
           ∙ set-getD marks e 0)
       | inr h ↦ rw h
     ]
+
+module _ (marks entries : List ℕ) (r : ℕ) (e : r ≡ crossable marks entries) where
+  -- the first r entries, those that are crossed out, are nodes
+  pub part-length : r ≡ length (take r entries)
+  part-length = let most = crossable-most marks entries in sym (length-take-le r entries (omega arith))
+
+  pub part-inside : (k : ℕ) → k < length (take r entries) → getD (take r entries) k 0 < length marks
+  part-inside k l =
+      let same = part-length in
+      let here = getD-take r entries k 0 (omega arith) in
+      let inside = crossable-below marks entries k (omega arith) in
+      omega arith
+
+  pub crossed-back : setAll 1 (setAll 0 marks (take r entries)) (take r entries) ≡ marks
+  crossed-back =
+      subst (λ (n : ℕ). setAll 1 (setAll 0 marks (take n entries)) (take n entries) ≡ marks) (sym e)
+      (marked-again marks entries)
 
 -- ---- all crossed out
 

@@ -76,6 +76,21 @@ paired-none nodes entries {claims} f = record {
   only = fresh-channels f;
 }
 
+-- one entry more
+pub paired-more : {nodes entries : List ℕ} {k : ℕ} {before claims claims′ : List ℕ}
+    → PairedTo nodes entries k before claims → k < length entries
+    → (hasKind nodes isIn (getD entries k 0) ≡ true → aAt nodes (getD entries k 0) < 256)
+    → (hasKind nodes isOut (getD entries k 0) ≡ true → aAt nodes (getD entries k 0) < 256)
+    → EntryPairing nodes (getD entries k 0) true claims claims′ → PairedTo nodes entries (k + 1) before claims′
+paired-more {nodes} {entries} {k} {before} {claims} {claims′} h l in-inside out-inside p = record {
+  ins = claims-more (hasKind nodes isIn) (aAt nodes) 0 entries k l claims claims′ (h .ins) in-inside
+      (and-left _ _ (sym (p .wasFree))) (p .inputs refl);
+  outs = claims-more (hasKind nodes isOut) (aAt nodes) 256 entries k l claims claims′ (h .outs) out-inside
+      (and-right (isFree (hasKind nodes isIn) (aAt nodes) 0 claims (getD entries k 0)) _ (sym (p .wasFree)))
+      (p .outputs refl);
+  only = more-channels (h .only) p;
+}
+
 module _ {nodes entries : List ℕ} (x : CycleOf nodes entries) where
   -- the entries that are a leaf of that kind on a channel are the marked ones
   abbrev onChannel : (Leaf → Bool) → ℕ → List ℕ
@@ -97,12 +112,12 @@ module _ {nodes entries : List ℕ} (x : CycleOf nodes entries) where
   -- each entry has claimed its channel
   all-paired : {before claims : List ℕ} → ChannelsOnly before claims
       → Claims (hasKind nodes isIn) (aAt nodes) 0 entries claims
-      → Claims (hasKind nodes isOut) (aAt nodes) 256 entries claims → Pairing x true before claims
+      → Claims (hasKind nodes isOut) (aAt nodes) 256 entries claims → Pairing x before claims
   unfolding channelsFree
   all-paired {before} {claims} o hi ho = record {
-    answer = sym (all-below (λ c. single isIn c && single isOut c) (x .channels) (λ c l. both
-        (on-single isIn c ∙ le-leb _ 1 (hi c .single)) (on-single isOut c ∙ le-leb _ 1 (ho c .single))));
-    paired = λ r. record { size = o .aged .size; inputs = ranked isIn 0 hi; outputs = ranked isOut 256 ho };
+    free = all-below (λ c. single isIn c && single isOut c) (x .channels) (λ c l. both
+        (on-single isIn c ∙ le-leb _ 1 (hi c .single)) (on-single isOut c ∙ le-leb _ 1 (ho c .single)));
+    paired = record { size = o .aged .size; inputs = ranked isIn 0 hi; outputs = ranked isOut 256 ho };
     unwritten = o .unwritten;
     aged = o .aged;
     stamp = o .stamp;
@@ -113,16 +128,11 @@ module _ {nodes entries : List ℕ} (x : CycleOf nodes entries) where
       ranked f part h c l = h c .rank l ∙ ap rankOf (on-same f c (h c .single))
 
   -- two entries want one channel
-  not-paired : {before claims : List ℕ} (c : ℕ) → ChannelsOnly before claims → c < x .channels
-      → (2 ≤ length (onChannel isIn c)) ⊎ (2 ≤ length (onChannel isOut c)) → Pairing x false before claims
+  not-paired : (c : ℕ) → c < x .channels → (2 ≤ length (onChannel isIn c)) ⊎ (2 ≤ length (onChannel isOut c))
+      → channelsFree (program x) (x .marks) ≡ false
   unfolding channelsFree
-  not-paired c o l two = record {
-    answer = sym (refuted _ (λ h. clash (every-below (λ c. single isIn c && single isOut c) (x .channels) h c l) two));
-    paired = λ r. absurd (true≢false (sym r));
-    unwritten = o .unwritten;
-    aged = o .aged;
-    stamp = o .stamp;
-  }
+  not-paired c l two =
+      refuted _ (λ h. clash (every-below (λ c. single isIn c && single isOut c) (x .channels) h c l) two)
     where
       twice : (f : Leaf → Bool) → single f c ≡ true → 2 ≤ length (onChannel f c) → ⊥
       twice f h two = let most = leb-true (length (onChannel f c)) 1 (sym (on-single f c) ∙ h) in omega arith
@@ -135,47 +145,38 @@ module _ {nodes entries : List ℕ} (x : CycleOf nodes entries) where
   -- ---- entry by entry
 
   module _ {k : ℕ} {before claims : List ℕ} (h : PairedTo nodes entries k before claims) where
-    pub paired-all : length entries ≤ k → Pairing x true before claims
+    pub paired-all : length entries ≤ k → Pairing x before claims
     paired-all l =
         all-paired (h .only) (claims-all (hasKind nodes isIn) (aAt nodes) 0 entries claims k l (h .ins))
         (claims-all (hasKind nodes isOut) (aAt nodes) 256 entries claims k l (h .outs))
 
-    module _ (l : k < length entries) where
-      abbrev entry : ℕ
-      entry = getD entries k 0
+    -- the next finds its channel claimed
+    pub paired-refused : k < length entries
+        → isFree (hasKind nodes isIn) (aAt nodes) 0 claims (getD entries k 0)
+        && isFree (hasKind nodes isOut) (aAt nodes) 256 claims (getD entries k 0) ≡ false
+        → channelsFree (program x) (x .marks) ≡ false
+    paired-refused l = pick (isFree (hasKind nodes isIn) (aAt nodes) 0 claims entry) refl
+      where
+        entry : ℕ
+        entry = getD entries k 0
 
-      -- its channel is in range
-      pub in-inside : hasKind nodes isIn entry ≡ true → aAt nodes entry < 256
-      in-inside i = channel-fits x (in-channel x entry (entry-marked x k l) i)
+        in-here : hasKind nodes isIn entry ≡ true → aAt nodes entry < x .channels
+        in-here = in-channel x entry (entry-marked x k l)
 
-      pub out-inside : hasKind nodes isOut entry ≡ true → aAt nodes entry < 256
-      out-inside i = channel-fits x (out-channel x entry (entry-marked x k l) i)
+        out-here : hasKind nodes isOut entry ≡ true → aAt nodes entry < x .channels
+        out-here = out-channel x entry (entry-marked x k l)
 
-      pub paired-more : {claims′ : List ℕ} → EntryPairing nodes entry true claims claims′
-          → PairedTo nodes entries (k + 1) before claims′
-      paired-more {claims′} p = record {
-        ins = claims-more (hasKind nodes isIn) (aAt nodes) 0 entries k l claims claims′ (h .ins) in-inside
-            (and-left _ _ (sym (p .wasFree))) (p .inputs refl);
-        outs = claims-more (hasKind nodes isOut) (aAt nodes) 256 entries k l claims claims′ (h .outs) out-inside
-            (and-right (isFree (hasKind nodes isIn) (aAt nodes) 0 claims entry) _ (sym (p .wasFree))) (p .outputs refl);
-        only = more-channels (h .only) p;
-      }
-
-      pub paired-refused : {claims′ : List ℕ} → EntryPairing nodes entry false claims claims′
-          → Pairing x false before claims′
-      paired-refused {claims′} p =
-          pick (isFree (hasKind nodes isIn) (aAt nodes) 0 claims entry) refl (sym (p .wasFree))
-        where
-          pick : (b : Bool) → isFree (hasKind nodes isIn) (aAt nodes) 0 claims entry ≡ b
-              → b && isFree (hasKind nodes isOut) (aAt nodes) 256 claims entry ≡ false → Pairing x false before claims′
-          pick true e t =
-              let r = claims-refused (hasKind nodes isOut) (aAt nodes) 256 entries k l claims (h .outs) out-inside t in
-              not-paired (aAt nodes entry) (more-channels (h .only) p)
-              (out-channel x entry (entry-marked x k l) (r .0)) (inr (r .1))
-          pick false e t =
-              let r = claims-refused (hasKind nodes isIn) (aAt nodes) 0 entries k l claims (h .ins) in-inside e in
-              not-paired (aAt nodes entry) (more-channels (h .only) p)
-              (in-channel x entry (entry-marked x k l) (r .0)) (inl (r .1))
+        pick : (b : Bool) → isFree (hasKind nodes isIn) (aAt nodes) 0 claims entry ≡ b
+            → b && isFree (hasKind nodes isOut) (aAt nodes) 256 claims entry ≡ false
+            → channelsFree (program x) (x .marks) ≡ false
+        pick true e t =
+            let r = claims-refused (hasKind nodes isOut) (aAt nodes) 256 entries k l claims (h .outs)
+            (λ i. channel-fits x (out-here i)) t in
+            not-paired (aAt nodes entry) (out-here (r .0)) (inr (r .1))
+        pick false e t =
+            let r = claims-refused (hasKind nodes isIn) (aAt nodes) 0 entries k l claims (h .ins)
+            (λ i. channel-fits x (in-here i)) e in
+            not-paired (aAt nodes entry) (in-here (r .0)) (inl (r .1))
 
   -- ---- which leaves wait
 

@@ -1,12 +1,12 @@
--- The front of a scratch list, lent as `&mut list[..n]`: it begins as zeros, and when it has come back as other
--- elements, the front of the list is what came back.
+-- Parts of a list that are lent. The front of a scratch list, `&mut list[..n]`, begins as zeros, and when it has come back
+-- as other elements, the front of the list is what came back.
 use mathlib.Core.Path.{_≡_, refl, sym, ap, _∙_}
 use mathlib.Core.List.{List, _∷_, _++_}
-use Prim.Native.Nat.{ℕ, zero, suc, _≤_}
+use Prim.Native.Nat.{ℕ, zero, suc, _-_, _≤_}
 use native.Mathlib.Nat.{le-of-suc-le-suc}
 use native.Mathlib.Omega.{arith}
-use lib.ListN.{length, take, drop, replicate}
-use lib.Seq.{length-take-le, length-front, take-at}
+use lib.ListN.{length, take, drop, replicate, length-drop}
+use lib.Seq.{take-all, length-take-le, length-front, take-at}
 
 pub take-zeros : (n size : ℕ) → n ≤ size → take {A = ℕ} n (replicate size 0) ≡ replicate n 0
 take-zeros zero size l = refl
@@ -29,3 +29,7 @@ returned list front n inside kept =
       back = back;
       backLength = rw back (sym size);
     }
+
+-- the part of a list from one place on, as the code lends it
+pub part-from : (xs : List ℕ) (a : ℕ) → take (length xs - a) (drop a xs) ≡ drop a xs
+part-from xs a = take-all (length xs - a) (drop a xs) (simp length-drop (omega arith))

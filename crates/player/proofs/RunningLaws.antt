@@ -9,7 +9,7 @@ use Prim.Native.Nat.{ℕ, suc, _+_, _-_, _≤_, _<_, zero-le}
 use native.Mathlib.Nat.{add-zero, sub-zero, min-le-right}
 use native.Mathlib.Omega.{arith}
 use lib.ListN.{length, take, drop, length-take, length-drop}
-use lib.Seq.{take-all, drop-drop}
+use lib.Seq.{drop-drop}
 use borrow.Author.Tests.{eq-eqb, ne-eqb}
 use Rattle.semantics.specs.Program.{Program}
 use Rattle.semantics.specs.State.{State, markCount, ended}
@@ -24,10 +24,6 @@ use Rattle.semantics.proofs.Order.OrderRule.{answer-of-run}
 use Rattle.player.specs.Cycle.{Runnable, CycleAnswer}
 use Rattle.player.specs.Run.{RunAnswer}
 use Rattle.player.proofs.RunAnswerLaws.{at-least-7, CyclesNumber, no-item, by-answer}
-
--- the part of a list from one place on, as the code lends it
-pub part-from : (xs : List ℕ) (a : ℕ) → take (length xs - a) (drop a xs) ≡ drop a xs
-part-from xs a = take-all (length xs - a) (drop a xs) (simp length-drop (omega arith))
 
 one-more-before : (k : ℕ) (r : Run) → workedBefore k (oneMore r) ≡ workedBefore (k + 1) r
 one-more-before k r =

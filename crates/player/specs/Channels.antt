@@ -1,16 +1,17 @@
 -- What the code of a cycle knows once question 7 is answered yes, and what it claims for the channels.
 use mathlib.Core.Path.{_≡_}
-use mathlib.Core.Bool.{Bool, true, _&&_}
+use mathlib.Core.Bool.{Bool, true, false, _&&_}
 use mathlib.Core.Logic.{_⊎_}
 use mathlib.Core.List.{List}
-use Prim.Native.Nat.{ℕ, _+_, _<_}
-use lib.ListN.{length, getD}
+use Prim.Native.Nat.{ℕ, _+_, _≤_, _<_}
+use lib.ListN.{length, getD, drop}
 use Rattle.semantics.specs.Program.{Program, Leaf, nodeCount, kindAt, aAt, leafTest}
 use Rattle.semantics.specs.State.{marked}
 use Rattle.semantics.specs.Completion.{isIn, isOut, markedOn, channelsFree}
 use Rattle.semantics.specs.Cycle.{areActive}
 use Rattle.semantics.specs.Facts.{Accepted}
 use Rattle.program.specs.Answer.{programOf}
+use Rattle.player.specs.Entries.{crossable, CrossedOut}
 use Rattle.player.specs.Claims.{rankOf, rankIn, isFree, Claimed, Aged}
 
 -- A cycle of an accepted program with these nodes, whose active statements are these entries: the rest of the program,
@@ -45,14 +46,22 @@ pub record Paired {nodes entries : List ℕ} (x : CycleOf nodes entries) (claims
 abbrev pub Unwritten : List ℕ → Type 0
 Unwritten claims = (v : ℕ) → v < 256 → getD claims (512 + v) 0 < getD claims 3584 0
 
--- The answer to question 8, with the claims where it is yes.
-pub record Pairing {nodes entries : List ℕ} (x : CycleOf nodes entries) (free : Bool) (before claims : List ℕ) : Type 0
-  where
-    pub answer : free ≡ channelsFree (program x) (x .marks)
-    pub paired : free ≡ true → Paired x claims
-    pub unwritten : Unwritten claims
-    pub aged : Aged claims (getD before 3584 0)
-    pub stamp : getD claims 3584 0 ≡ getD before 3584 0
+-- Question 8 is answered yes, and the channels are claimed.
+pub record Pairing {nodes entries : List ℕ} (x : CycleOf nodes entries) (before claims : List ℕ) : Type 0 where
+  pub free : channelsFree (program x) (x .marks) ≡ true
+  pub paired : Paired x claims
+  pub unwritten : Unwritten claims
+  pub aged : Aged claims (getD before 3584 0)
+  pub stamp : getD claims 3584 0 ≡ getD before 3584 0
+
+-- The first r entries are crossed out and have claimed their channels. The next, where there is one, has no mark any more
+-- or finds its channel claimed.
+pub record CrossedTo (nodes entries marks₀ before : List ℕ) (r : ℕ) (marks claims : List ℕ) : Type 0 where
+  pub out : CrossedOut entries marks₀ r marks
+  pub stopped : r < length entries
+      → (crossable marks (drop r entries) ≡ 0)
+      ⊎ ((x : CycleOf nodes entries) → channelsFree (program x) (x .marks) ≡ false)
+  pub passed : length entries ≤ r → (x : CycleOf nodes entries) → Pairing x before claims
 
 -- Node i is marked in a cycle whose channels are paired.
 pub record PairedEntry (nodes claims : List ℕ) (i : ℕ) : Type 0 where

@@ -3,19 +3,23 @@ use crate::claims;
 use crate::claims::CLAIMS;
 use crate::claims::INPUTS;
 use crate::claims::OUTPUTS;
+use crate::entries;
 use crate::records;
 use program::ChanId;
 use program::kinds::IN;
 use program::kinds::OUT;
 ghost use mathlib.Core.Path.{_≡_};
 ghost use mathlib.Core.Bool.{true, not};
-ghost use Prim.Native.Nat.{_+_, _<_};
+ghost use mathlib.Core.List.{List};
+ghost use Prim.Native.Nat.{ℕ, _+_, _<_};
 ghost use lib.Dec.{eqb};
 ghost use lib.ListN.{length, getD};
 ghost use Rattle.semantics.specs.Program.{nodeCount, aAt};
 ghost use Rattle.semantics.specs.Completion.{isIn, isOut, waits};
+ghost use Rattle.semantics.specs.Facts.{Accepted};
+ghost use Rattle.program.specs.Answer.{programOf};
 ghost use Rattle.player.specs.Claims.{Claim, Fresh, rankIn};
-ghost use Rattle.player.specs.Channels.{CycleOf, Pairing, PairedEntry, EntryPairing, program, hasKind};
+ghost use Rattle.player.specs.Channels.{PairedEntry, EntryPairing, CrossedTo, program, hasKind};
 
 // The channel of an IN or OUT.
 pub fn channel_of(nodes: &[u16], i: u16) -> ChanId
@@ -77,21 +81,33 @@ fn pair_one(nodes: &[u16], i: u16, claims: &mut [u16; CLAIMS]) -> bool
     }
 }
 
-// Question 8.
-pub fn pair_channels(nodes: &[u16], entries: &[u16], claims: &mut [u16; CLAIMS]) -> bool
-    requires { ⌜ CycleOf (now nodes) (now entries) ⌝ }
+// Questions 7 and 8 in one pass: each entry is crossed out of the marks and claims its channel, up to the first that has no
+// mark any more or finds its channel claimed. Gives the number of entries before it.
+pub fn pair_entries(
+    nodes: &[u16],
+    marks: &mut [u8],
+    entries: &[u16],
+    claims: &mut [u16; CLAIMS],
+) -> usize
+    requires { ⌜ ((exprs : List ℕ) × (vars : ℕ) × (chans : ℕ) × Accepted (programOf exprs (now nodes) vars chans))
+        × (length (now marks) ≡ nodeCount (now nodes)) ⌝ }
     requires { ⌜ Fresh (now claims) ⌝ }
-    ensures { λ r. ⌜ ((x : CycleOf (now (nodes .entry)) (now (entries .entry)))
-        → Pairing x r (now (claims .entry)) (now (claims .exit))) ⌝ }
+    ensures { λ r. ⌜ CrossedTo (now (nodes .entry)) (now (entries .entry)) (now (marks .entry)) (now (claims .entry)) r
+        (now (marks .exit)) (now (claims .exit)) ⌝ }
 {
     let mut k: usize = 0;
     while k < entries.len() {
-        if !pair_one(nodes, entries[k], claims) {
-            return false;
+        let i = entries[k];
+        if !entries::is_marked(marks, i) {
+            return k;
         }
+        if !pair_one(nodes, i, claims) {
+            return k;
+        }
+        entries::cross(marks, i);
         k += 1;
     }
-    true
+    k
 }
 
 // Whether node i, a marked one, waits: an IN with no OUT marked on its channel, or an OUT with no IN.

@@ -11,15 +11,31 @@ use crate::work::LOOPED;
 use crate::work::TALLY;
 use crate::work::WORK;
 ghost use mathlib.Core.Path.{_≡_};
+ghost use mathlib.Core.Bool.{cond};
 ghost use mathlib.Core.List.{List};
 ghost use Prim.Native.Nat.{ℕ};
-ghost use lib.ListN.{replicate};
+ghost use lib.Dec.{ltb};
+ghost use lib.ListN.{length, replicate};
 ghost use Rattle.semantics.specs.Program.{nodeCount};
 ghost use Rattle.program.specs.Answer.{programOf};
 ghost use Rattle.player.specs.Begin.{stateOf};
+ghost use Rattle.player.specs.Entries.{crossable, CrossedOut};
 ghost use Rattle.player.specs.Claims.{Fresh};
 ghost use Rattle.player.specs.Cycle.{Runnable, Carried, CycleFrom, Started};
 ghost use Rattle.player.specs.Cycle.{AskAnswer, StoreAnswer, AdvanceAnswer, WorkedCycle};
+
+// Where the pass of questions 7 and 8 came to so many entries and no further: the number of the question that refuses, and
+// the marks as they were. Question 7 comes first, so the other entries are crossed out too.
+fn refusal(marks: &mut [u8], entries: &[u16], passed: usize) -> u16
+    requires { ⌜ ((marks₀ : List ℕ) × CrossedOut (now entries) marks₀ passed (now marks)) ⌝ }
+    ensures { λ r. ⌜ ((marks₀ : List ℕ) → CrossedOut (now (entries .entry)) marks₀ passed (now (marks .entry))
+        → (now (marks .exit) ≡ marks₀)
+        × (r ≡ cond (ltb (crossable marks₀ (now (entries .entry))) (length (now (entries .entry)))) 7 8)) ⌝ }
+{
+    let crossed = passed + entries::cross_out(marks, &entries[passed..]);
+    entries::mark_again(marks, &entries[..crossed]);
+    if crossed < entries.len() { 7 } else { 8 }
+}
 
 // Questions 7 to 9 of as many entries as there are marks: the number of the first that is answered no, and the marks stay
 // as they were; or 0, no mark is left, and the right sides are worked.
@@ -40,14 +56,9 @@ fn ask(
         → Carried (now (exprs .entry)) (now (nodes .entry)) values (now (marks .entry)) (now (work .entry))
         → AskAnswer x (now (claims .entry)) r (now (marks .exit)) (now (work .exit)) (now (claims .exit))) ⌝ }
 {
-    let crossed = entries::cross_out(marks, entries);
-    if crossed < entries.len() {
-        entries::mark_again(marks, &entries[..crossed]);
-        return 7;
-    }
-    if !channels::pair_channels(nodes, entries, claims) {
-        entries::mark_again(marks, entries);
-        return 8;
+    let passed = channels::pair_entries(nodes, marks, entries, claims);
+    if passed < entries.len() {
+        return refusal(marks, entries, passed);
     }
     if !stores::work_right_sides(nodes, exprs, work, claims, entries) {
         entries::mark_again(marks, entries);

@@ -1,11 +1,29 @@
 // Question 7: each entry is crossed out of the lent marks. When all are crossed out no mark is left, for there are as many
 // entries as marks: so the marks are cleared for the walks.
 ghost use mathlib.Core.Path.{_≡_};
-ghost use mathlib.Core.Bool.{cond};
 ghost use Prim.Native.Nat.{ℕ, _<_};
 ghost use lib.ListN.{length, getD, set, take};
 ghost use Rattle.semantics.specs.State.{marked};
 ghost use Rattle.player.specs.Entries.{crossable, setAll};
+
+// Whether node i has a mark.
+pub fn is_marked(marks: &[u8], i: u16) -> bool
+    ensures { λ r. ⌜ r ≡ marked (now (marks .entry)) i ⌝ }
+{
+    let at = i as usize;
+    if marks.len() <= at {
+        return false;
+    }
+    marks[at] == 1
+}
+
+// Crosses node i out.
+pub fn cross(marks: &mut [u8], i: u16)
+    requires { ⌜ i < length (now marks) ⌝ }
+    ensures { λ _. ⌜ now (marks .exit) ≡ set (now (marks .entry)) i 0 ⌝ }
+{
+    marks[i as usize] = 0;
+}
 
 // Crosses entries out up to the first that has no mark, or none any more. Gives the number of entries before it.
 pub fn cross_out(marks: &mut [u8], entries: &[u16]) -> usize
@@ -14,28 +32,13 @@ pub fn cross_out(marks: &mut [u8], entries: &[u16]) -> usize
 {
     let mut k: usize = 0;
     while k < entries.len() {
-        if !cross_one(marks, entries[k]) {
+        if !is_marked(marks, entries[k]) {
             return k;
         }
+        cross(marks, entries[k]);
         k += 1;
     }
     k
-}
-
-// Whether node i has a mark; then it is crossed out.
-fn cross_one(marks: &mut [u8], i: u16) -> bool
-    ensures { λ r. ⌜ (r ≡ marked (now (marks .entry)) i) ⌝ }
-    ensures { λ r. ⌜ now (marks .exit) ≡ cond r (set (now (marks .entry)) i 0) (now (marks .entry)) ⌝ }
-{
-    let at = i as usize;
-    if marks.len() <= at {
-        return false;
-    }
-    if marks[at] != 1 {
-        return false;
-    }
-    marks[at] = 0;
-    true
 }
 
 fn mark_one(marks: &mut [u8], i: u16)

@@ -16,7 +16,8 @@ use Rattle.player.specs.Begin.{stateOf}
 use Rattle.player.specs.Claims.{Aged}
 use Rattle.player.specs.Cycle.{Runnable, Carried, CycleAnswer, WorkedCycle}
 use Rattle.player.proofs.StampLaws.{aged-first, stamp-set, fresh-next}
-use Rattle.player.proofs.RunningLaws.{Progress, part-from, none-worked}
+use Rattle.player.proofs.PartLaws.{part-from}
+use Rattle.player.proofs.RunningLaws.{Progress, none-worked}
 use Rattle.player.proofs.RunningLaws.{all-worked, no-mark, one-refused, one-worked}
 use Rattle.player.proofs.cycles.work_cycles.Statement.{statement}
 use Rattle.player.proofs.cycles.work_cycles.Tie as tie
