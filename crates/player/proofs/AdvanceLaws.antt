@@ -1,7 +1,7 @@
 -- The stores and the walks of a cycle in code: from what they left to the rules' state after the cycle, or where a
 -- zero-time loop was met, to the state before it.
 use mathlib.Core.Path.{_≡_, refl, sym, ap, _∙_, subst}
-use mathlib.Core.Bool.{Bool, true, false, cond, not}
+use mathlib.Core.Bool.{Bool, false, cond, not}
 use mathlib.Core.List.{List, foldl}
 use mathlib.Core.Logic.{_≢_}
 use Prim.Native.Nat.{ℕ, zero, suc, _+_, _≤_, _<_}
@@ -23,7 +23,7 @@ use Rattle.player.specs.Walks.{walk, walkIn, holdsIn, Walking, Walks}
 use Rattle.player.specs.WellFormed.{ListsFit}
 use Rattle.player.specs.Entries.{setAll}
 use Rattle.player.specs.Stores.{Stored, takenBack}
-use Rattle.player.specs.Cycle.{CycleFrom, cycleOf, programFrom, Started, StoreAnswer, AdvanceAnswer, Carried}
+use Rattle.player.specs.Cycle.{CycleFrom, programFrom, Started, StoreAnswer, AdvanceAnswer}
 use Rattle.player.specs.Cycle.{walkAfter}
 use Rattle.player.proofs.WorkLaws.{memo-set, memo-rewritten, memo-unworked, tally-set, met-set-tally}
 use Rattle.player.proofs.AcceptedLaws.{accepted-walkable}

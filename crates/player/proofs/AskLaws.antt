@@ -1,11 +1,9 @@
 -- Questions 7 to 9 as a cycle in code asks them: from what each step found to the rules' answer, and the marks after it.
 use mathlib.Core.Path.{_≡_, refl, sym, ap, _∙_, subst}
-use mathlib.Core.Bool.{Bool, true, false, cond}
-use mathlib.Core.List.{List, [], _∷_}
-use mathlib.Core.Logic.{_≢_}
+use mathlib.Core.Bool.{Bool, true, false}
+use mathlib.Core.List.{List}
 use Prim.Native.Nat.{ℕ, _+_, _≤_, _<_}
 use native.Mathlib.Omega.{arith}
-use lib.Dec.{eqb}
 use lib.ListN.{length, getD, take, replicate}
 use lib.Seq.{take-all}
 use borrow.Author.Tests.{eq-eqb, ne-eqb}
@@ -16,7 +14,7 @@ use Rattle.player.specs.Entries.{crossable, setAll}
 use Rattle.player.specs.Claims.{Aged}
 use Rattle.player.specs.Channels.{Pairing}
 use Rattle.player.specs.Stores.{Storing, RightSides}
-use Rattle.player.specs.Cycle.{CycleFrom, cycleOf, Carried, Started, AskAnswer, programFrom}
+use Rattle.player.specs.Cycle.{CycleFrom, cycleOf, Carried, AskAnswer, programFrom}
 use Rattle.player.proofs.UndoLaws.{formed-bits}
 use Rattle.player.proofs.EntryLaws.{active-crossable, crossable-most, crossed-back, all-crossed}
 

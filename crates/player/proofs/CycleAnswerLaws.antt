@@ -20,8 +20,7 @@ use Rattle.semantics.proofs.Lists.QuestionLaws.{accepted, firstNo-append}
 use Rattle.semantics.proofs.Order.CycleOrder.{fits-lengths}
 use Rattle.program.specs.Answer.{programOf}
 use Rattle.player.specs.Begin.{stateOf}
-use Rattle.player.specs.Claims.{Aged}
-use Rattle.player.specs.Cycle.{Runnable, Carried, CycleAnswer, CycleFrom, programFrom, Started, Advanced, walkAfter}
+use Rattle.player.specs.Cycle.{Runnable, CycleAnswer, CycleFrom, programFrom, Started, Advanced, walkAfter}
 use Rattle.player.specs.Cycle.{firstQuestions, AskAnswer, AdvanceAnswer, WorkedCycle}
 
 -- the next m entries of the book, as many as there are marks

@@ -10,7 +10,6 @@ use native.Mathlib.Omega.{arith}
 use lib.Dec.{eqb, leb}
 use lib.ListN.{length, getD, drop}
 use lib.Seq.{drop-cons}
-use borrow.Author.Tests.{eqb-true}
 use Rattle.semantics.specs.Numbers.{below, upFrom, filter}
 use Rattle.semantics.specs.Program.{Program, exprCount, nodeCount, kindOf, aAt, bAt}
 use Rattle.semantics.specs.Check.{referencesOk}
@@ -25,7 +24,7 @@ use Rattle.semantics.proofs.Run.CrossOut.{markCount-cons}
 use Rattle.semantics.proofs.Run.EntryCounts.{entry-count}
 use Rattle.semantics.proofs.Lists.LeafKinds.{asg-names, in-names, out-names}
 use Rattle.player.specs.Work.{Formulas}
-use Rattle.player.specs.Channels.{CycleOf, PairedEntry, program, hasKind}
+use Rattle.player.specs.Channels.{CycleOf, PairedEntry, hasKind}
 
 -- ---- what passes a test
 

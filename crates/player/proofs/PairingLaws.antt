@@ -1,7 +1,7 @@
 -- The claims of channels: made entry by entry they answer question 8 and say which IN and OUT are marked on each
 -- channel, and so which leaves wait.
 use mathlib.Core.Path.{_≡_, refl, sym, ap, _∙_}
-use mathlib.Core.Bool.{Bool, true, false, _&&_, true≢false, or-false}
+use mathlib.Core.Bool.{Bool, true, false, _&&_, or-false}
 use mathlib.Core.List.{List, [], _∷_}
 use mathlib.Core.Logic.{_≢_, _⊎_, inl, inr}
 use Prim.Native.Nat.{ℕ, _+_, _-_, _*_, _≤_, _<_}

@@ -1,9 +1,9 @@
 -- The stamps of a run: they rise from cycle to cycle, so that at the start of a cycle none has its stamp.
-use mathlib.Core.Path.{_≡_, sym, _∙_}
+use mathlib.Core.Path.{_≡_, _∙_}
 use mathlib.Core.List.{List}
-use Prim.Native.Nat.{ℕ, suc, _+_, _≤_, _<_}
+use Prim.Native.Nat.{ℕ, _+_}
 use native.Mathlib.Omega.{arith}
-use lib.ListN.{length, getD, set, replicate, length-set, length-replicate}
+use lib.ListN.{getD, set, replicate, length-set, length-replicate}
 use lib.Seq.{getD-set-same, getD-set-other}
 use Rattle.semantics.proofs.Lists.NumberLaws.{zeros}
 use Rattle.player.specs.Claims.{Aged, Fresh}

@@ -13,7 +13,7 @@ use Rattle.semantics.specs.State.{markCount}
 use Rattle.semantics.specs.Walk.{Walk, Entered, loopIfFinished, enter, leave}
 use Rattle.semantics.specs.Walk.Entered.{finished, stays}
 use Rattle.semantics.specs.Facts.{NodesOk, statementAt}
-use Rattle.player.specs.Work.{Formulas, Memo, KeptFrom, Climbing, met}
+use Rattle.player.specs.Work.{Formulas, Memo, KeptFrom, met}
 
 abbrev pub walk : List ℕ → List ℕ → Bool → Walk
 walk marks counts looped = record { marks = marks; counts = counts; looped = looped }

@@ -14,18 +14,16 @@ use program::kinds::PAR;
 use program::kinds::SEQ;
 use program::kinds::WHL;
 ghost use mathlib.Core.Path.{_≡_};
-ghost use mathlib.Core.Bool.{Bool, true, false, cond, _&&_};
-ghost use mathlib.Core.Logic.{_≢_};
+ghost use mathlib.Core.Bool.{true, false, cond, _&&_};
 ghost use mathlib.Core.List.{List};
-ghost use Prim.Native.Nat.{ℕ, suc, _≤_, _<_};
+ghost use Prim.Native.Nat.{ℕ, _≤_, _<_};
 ghost use lib.Dec.{eqb};
-ghost use lib.ListN.{length, set};
-ghost use Rattle.semantics.specs.Program.{nodeCount, isLeaf, kindOf, kindAt, aAt, endAt};
-ghost use Rattle.semantics.specs.Tree.{childrenFrom};
-ghost use Rattle.semantics.specs.Walk.{enter, enterEach};
+ghost use lib.ListN.{set};
+ghost use Rattle.semantics.specs.Program.{nodeCount, isLeaf, kindOf, aAt};
+ghost use Rattle.semantics.specs.Walk.{enter};
 ghost use Rattle.semantics.specs.Facts.{statementAt};
-ghost use Rattle.player.specs.Work.{Worked, KeptFrom};
-ghost use Rattle.player.specs.Walks.{walkIn, entered, passed, holdsIn, kindWord, Walking, Enters, Walks, ButLast, Chosen};
+ghost use Rattle.player.specs.Work.{KeptFrom};
+ghost use Rattle.player.specs.Walks.{walkIn, holdsIn, kindWord, Walking, Enters, ButLast, Chosen};
 
 pub const FINISHED: u16 = 0;
 

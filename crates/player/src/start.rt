@@ -8,7 +8,7 @@ use crate::work::WORK;
 ghost use mathlib.Core.Path.{_≡_};
 ghost use mathlib.Core.List.{List};
 ghost use Prim.Native.Nat.{ℕ, _+_, _≤_, _<_};
-ghost use lib.ListN.{length, getD, replicate};
+ghost use lib.ListN.{length, replicate};
 ghost use Rattle.semantics.specs.Program.{nodeCount};
 ghost use Rattle.player.specs.Work.{Memo, KeptFrom, ParentsTo};
 ghost use Rattle.player.specs.Cycle.{Carried};

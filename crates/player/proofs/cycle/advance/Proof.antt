@@ -1,13 +1,9 @@
 -- `advance` stores and walks in the lent lists, and takes both back where a zero-time loop was met.
-use mathlib.Core.Path.{_≡_, refl, sym, ap, _∙_, subst}
+use mathlib.Core.Path.{_∙_}
 use mathlib.Core.List.{List}
 use Prim.Native.Nat.{ℕ}
-use native.Mathlib.Omega.{arith}
-use lib.ListN.{length, getD, replicate, set}
 use borrow.Author.Needs.{needs}
-use Rattle.player.specs.Begin.{stateOf}
-use Rattle.player.specs.Walks.{Walks}
-use Rattle.player.specs.Cycle.{Started, StoreAnswer, cycleOf, programFrom}
+use Rattle.player.specs.Cycle.{Started, StoreAnswer, cycleOf}
 use Rattle.player.proofs.AdvanceLaws.{walking, climbing, Walked, advanced, taken-back}
 use Rattle.player.proofs.AdvanceLaws.{lists-fit, entries-fit, marks-back, counts-back}
 use Rattle.player.proofs.cycle.advance.Statement.{statement}

@@ -1,11 +1,10 @@
 -- `work_cycles` works one cycle a turn. The invariant: the rules' run from the start is the run of the cycles left,
 -- from the lists as they are. Besides, `work` has what the next cycle asks, no stamp is above the cycles worked, and the
 -- lists have kept their lengths.
-use mathlib.Core.Path.{_≡_, refl, sym, ap, _∙_, subst}
-use mathlib.Core.List.{List}
+use mathlib.Core.Path.{_≡_, refl, _∙_, subst}
 use Prim.Native.Nat.{ℕ, _+_, _-_, _≤_, zero-le}
 use native.Mathlib.Omega.{arith}
-use lib.ListN.{length, getD, drop, set}
+use lib.ListN.{length, drop, set}
 use borrow.Author.Needs.{needs}
 use Rattle.semantics.specs.Program.{Program}
 use Rattle.semantics.specs.State.{State, markCount}

@@ -1,8 +1,7 @@
 -- `cross_out` crosses one entry out a turn: the first k are crossed out.
 use mathlib.Core.Path.{sym, _∙_}
 use Prim.Native.Nat.{_-_}
-use native.Mathlib.Omega.{arith}
-use lib.ListN.{length, getD}
+use lib.ListN.{length}
 use borrow.Author.Needs.{needs}
 use borrow.Author.Tests.{not-true, not-false}
 use Rattle.semantics.proofs.Lists.ActiveLaws.{marked-below}

@@ -6,7 +6,6 @@ use Rattle.semantics.specs.Program.{nodeCount, endAt}
 use Rattle.semantics.specs.Walk.{leave}
 use Rattle.player.specs.Walks.{walkIn, holdsIn, Walking}
 use Rattle.player.proofs.UnderwayLaws.{Underway, underway-first, underway-climbing, climb-next, climb-last}
-use borrow.Author.Needs.{needs}
 use Rattle.player.proofs.leave.leave.Statement.{statement}
 use Rattle.player.proofs.leave.leave.Tie as tie
 

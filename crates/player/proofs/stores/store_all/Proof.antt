@@ -1,9 +1,9 @@
 -- `store_all` has the first n stores made.
-use mathlib.Core.Path.{_≡_, refl, sym, ap, _∙_}
+use mathlib.Core.Path.{ap}
 use mathlib.Core.Bool.{Bool, _||_}
-use Prim.Native.Nat.{ℕ, _+_, _≤_, _-_}
+use Prim.Native.Nat.{_≤_, _-_}
 use native.Mathlib.Omega.{arith}
-use lib.ListN.{length, getD}
+use lib.ListN.{getD}
 use borrow.Author.Needs.{needs}
 use Rattle.player.proofs.StoredLaws.{StoredTo, stored-none, stored-target, stored-few, stored-more, stored-all}
 use Rattle.player.proofs.stores.store_all.Statement.{statement}

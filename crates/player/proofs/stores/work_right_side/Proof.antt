@@ -1,5 +1,5 @@
 -- `work_right_side` claims the variable of an entry that stores, and holds its value.
-use mathlib.Core.Path.{sym, _∙_}
+use mathlib.Core.Path.{_∙_}
 use borrow.Author.Tests.{not-true, not-false}
 use Rattle.player.proofs.CycleLaws.{entry-node}
 use Rattle.player.proofs.RightSideLaws.{storing-entry, storing-target, storing-room, storing-formulas, storing-source}
