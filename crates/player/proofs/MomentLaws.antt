@@ -3,7 +3,8 @@ use mathlib.Core.Path.{_≡_, refl, sym, _∙_, subst}
 use mathlib.Core.Bool.{Bool, true, false, cond}
 use mathlib.Core.List.{List}
 use mathlib.Core.Logic.{_≢_, inl, inr}
-use Prim.Native.Nat.{ℕ, suc, _+_, _<_}
+use Prim.Native.Nat.{ℕ, suc, _+_, _≤_, _<_}
+use native.Mathlib.Nat.{le-refl}
 use native.Mathlib.Omega.{arith}
 use lib.Dec.{eqb}
 use lib.ListN.{length, getD, set, length-set}
@@ -11,7 +12,7 @@ use lib.Seq.{getD-set-same, getD-set-other}
 use borrow.Author.Tests.{eqb-true, eqb-false}
 use Rattle.semantics.specs.Expressions.{exprValues}
 use Rattle.semantics.proofs.Lists.Logic.{lt-or-le, true-or-false}
-use Rattle.player.specs.Work.{Memo, KeptFrom, Worked, WorkedTo, Forgotten, Unworked, noted}
+use Rattle.player.specs.Work.{Memo, KeptFrom, Worked, WorkedTo, NotedTo, Forgotten, Unworked, noted}
 
 -- ---- moments
 
@@ -142,45 +143,122 @@ worked-after exprs values before work₁ work₂ e value p q x y l f g right = r
 -- ---- the expressions from left to right
 
 module _ (exprs values work : List ℕ) where
-  pub worked-to-none : (last : ℕ) → Memo exprs values work → WorkedTo exprs values work 0 last
-  worked-to-none last m =
-      record { memo = m; worked = λ e l. absurd (omega arith); right = λ e (h : suc e ≡ 0). absurd (omega arith) }
+  -- those before i are worked at the present moment
+  pub worked-first : (i last : ℕ) → i ≤ 1024 → Memo exprs values work
+      → ((j : ℕ) → j < i → getD work (1280 + j) 0 ≡ getD work 2304 0)
+      → ((e : ℕ) → suc e ≡ i → last ≡ getD work (256 + e) 0) → WorkedTo exprs values work i last
+  worked-first i last l m moments read = record {
+    memo = m;
+    stand = λ e u. m .known e (omega arith) (moments e u);
+    right = λ e (h : suc e ≡ i). read e h ∙ m .known e (omega arith) (moments e (omega arith));
+  }
 
   module _ (i last : ℕ) (w : WorkedTo exprs values work i last) where
-    -- what is worked up to i is worked up to i + 1, where i is worked
-    next : {work′ : List ℕ} (value : ℕ) → Memo exprs values work′ → value ≡ getD (exprValues exprs values) i 0
-        → ((e : ℕ) → e < i → getD work′ (1280 + e) 0 ≡ getD work′ 2304 0)
-        → getD work′ (1280 + i) 0 ≡ getD work′ 2304 0 → WorkedTo exprs values work′ (i + 1) value
-    next {work′} value m right before here = record {
-      memo = m;
-      worked = λ e l. elim (lt-or-le e i) [
-        | inl u ↦ before e u
-        | inr u ↦
-            let d : i ≡ e = omega arith in
-            subst (λ (k : ℕ). getD work′ (1280 + k) 0 ≡ getD work′ 2304 0) d here
-      ];
-      right = λ e (h : suc e ≡ i + 1).
-          let d : i ≡ e = omega arith in
-          subst (λ (k : ℕ). value ≡ getD (exprValues exprs values) k 0) d right;
-    }
+    -- the value of expression i is written
+    module _ (value : ℕ) (l : i < 1024) (right : value ≡ getD (exprValues exprs values) i 0) where
+      abbrev work′ : List ℕ
+      work′ = set work (256 + i) value
 
-    pub worked-already : i < 1024 → getD work (1280 + i) 0 ≡ getD work 2304 0
-        → WorkedTo exprs values work (i + 1) (getD work (256 + i) 0)
-    worked-already l h = next (getD work (256 + i) 0) (w .memo) (w .memo .known i l h) (w .worked) h
+      other : (j : ℕ) → j ≢ 256 + i → getD work′ j 0 ≡ getD work j 0
+      other j n = getD-set-other work (256 + i) j value 0 n
 
-    pub worked-noted : (value : ℕ) → i < 1024 → value ≡ getD (exprValues exprs values) i 0
-        → WorkedTo exprs values (noted work i value) (i + 1) value
-    worked-noted value l right =
-        next value (memo-noted work i value l exprs values right (w .memo)) right
-        (λ e u. other-moment work i value l e (λ (d : e ≡ i). omega arith) ∙ w .worked e u ∙ sym (moment work i value l))
-        (noted-moment work i value l (w .memo .size) ∙ sym (moment work i value l))
+      -- the value of an expression that has one
+      value-stays : (e : ℕ) → (e ≢ i → getD work (256 + e) 0 ≡ getD (exprValues exprs values) e 0)
+          → getD work′ (256 + e) 0 ≡ getD (exprValues exprs values) e 0
+      value-stays e was =
+          elim (true-or-false (eqb e i)) [
+            | inl t ↦
+                let d : i ≡ e = sym (eqb-true e i t) in
+                let size = w .memo .size in
+                subst (λ (k : ℕ). getD work′ (256 + k) 0 ≡ getD (exprValues exprs values) k 0) d
+                (getD-set-same work (256 + i) value 0 (omega arith) ∙ right)
+            | inr t ↦
+                let n : e ≢ i = eqb-false e i t in
+                other (256 + e) (λ (d : 256 + e ≡ 256 + i). n (omega arith)) ∙ was n
+          ]
+
+      pub worked-next : WorkedTo exprs values work′ (i + 1) value
+      worked-next =
+          let m = w .memo in
+          let fit = m .valuesFit in
+          let moment = other 2304 (λ (d : 2304 ≡ 256 + i). omega arith) in
+          let moments : (e : ℕ) → getD work′ (1280 + e) 0 ≡ getD work (1280 + e) 0 =
+          λ e. other (1280 + e) (λ (d : 1280 + e ≡ 256 + i). omega arith) in
+          let below : (e : ℕ) → e < i + 1 → e ≢ i → e < i = λ e u n. elim (lt-or-le e i) [
+            | inl v ↦ v
+            | inr v ↦ absurd (n (omega arith))
+          ] in
+          record {
+            memo = record {
+              size = length-set work (256 + i) value ∙ m .size;
+              valuesFit = fit;
+              variables = λ v u. other v (λ (d : v ≡ 256 + i). omega arith) ∙ m .variables v u;
+              known = λ e u h. value-stays e (λ n. m .known e u (sym (moments e) ∙ h ∙ moment));
+              past = λ e u. rw (moments e, moment) (m .past e u);
+            };
+            stand = λ e u. value-stays e (λ n. w .stand e (below e u n));
+            right = λ e (h : suc e ≡ i + 1).
+                let d : i ≡ e = omega arith in
+                subst (λ (k : ℕ). value ≡ getD (exprValues exprs values) k 0) d right;
+          }
 
     -- the value of one before i, read back or not
-    pub value-before : (p x : ℕ) → p < i → i < 1024 → x ≡ cond (eqb (p + 1) i) last (getD work (256 + p) 0)
+    pub value-before : (p x : ℕ) → p < i → x ≡ cond (eqb (p + 1) i) last (getD work (256 + p) 0)
         → x ≡ getD (exprValues exprs values) p 0
-    value-before p x l u = pick (eqb (p + 1) i) refl
+    value-before p x l = pick (eqb (p + 1) i) refl
       where
         pick : (b : Bool) → eqb (p + 1) i ≡ b → x ≡ cond b last (getD work (256 + p) 0)
             → x ≡ getD (exprValues exprs values) p 0
         pick true t h = let d = eqb-true (p + 1) i t in h ∙ w .right p (omega arith)
-        pick false t h = h ∙ w .memo .known p (omega arith) (w .worked p l)
+        pick false t h = h ∙ w .stand p l
+
+    -- and noted
+    pub memo-all-noted : {work′ : List ℕ} → NotedTo work work′ i → Memo exprs values work′
+    memo-all-noted {work′} n =
+        let m = w .memo in
+        let fit = m .valuesFit in
+        let moment = n .kept 2304 (omega arith) in
+        record {
+          size = n .size;
+          valuesFit = fit;
+          variables = λ v u. n .front v (omega arith) ∙ m .variables v u;
+          known = λ e u h. n .front (256 + e) (omega arith) ∙ elim (n .moments e u) [
+            | inl s ↦ m .known e u (sym s ∙ h ∙ moment)
+            | inr s ↦ w .stand e (s .0)
+          ];
+          past = λ e u. elim (n .moments e u) [
+            | inl s ↦ rw (s, moment) (m .past e u)
+            | inr s ↦ rw (s .1, moment) (le-refl (getD work 2304 0))
+          ];
+        }
+
+-- ---- notes
+
+pub noted-none : (work : List ℕ) (i : ℕ) → length work ≡ 3331 → NotedTo work work i
+noted-none work i size = record { size = size; front = λ j l. refl; moments = λ e l. inl refl; kept = λ j l. refl }
+
+pub noted-one : {before work : List ℕ} {i : ℕ} → NotedTo before work i → i < 1024
+    → NotedTo before (set work (1280 + i) (getD before 2304 0)) (i + 1)
+noted-one {before} {work} {i} n l =
+    let now = getD before 2304 0 in
+    let size = n .size in
+    let other : (j : ℕ) → j ≢ 1280 + i → getD (set work (1280 + i) now) j 0 ≡ getD work j 0 =
+    λ j d. getD-set-other work (1280 + i) j now 0 d in
+    record {
+      size = length-set work (1280 + i) now ∙ size;
+      front = λ j u. other j (λ (d : j ≡ 1280 + i). omega arith) ∙ n .front j u;
+      moments = λ e u. elim (true-or-false (eqb e i)) [
+        | inl t ↦
+            let d : i ≡ e = sym (eqb-true e i t) in
+            inr (
+              omega arith,
+              subst (λ (k : ℕ). getD (set work (1280 + i) now) (1280 + k) 0 ≡ now) d
+                  (getD-set-same work (1280 + i) now 0 (omega arith)),
+            )
+        | inr t ↦
+            let d : e ≢ i = eqb-false e i t in
+            let same = other (1280 + e) (λ (q : 1280 + e ≡ 1280 + i). d (omega arith)) in
+            elim (n .moments e u) [ inl s ↦ inl (same ∙ s) | inr s ↦ inr (omega (arith, s .0), same ∙ s .1) ]
+      ];
+      kept = λ j u. other j (λ (d : j ≡ 1280 + i). omega arith) ∙ n .kept j u;
+    }

@@ -5,6 +5,7 @@
 use mathlib.Core.Path.{_≡_}
 use mathlib.Core.Bool.{Bool, true, false, not}
 use mathlib.Core.List.{List}
+use mathlib.Core.Logic.{_⊎_}
 use Prim.Native.Nat.{ℕ, suc, _+_, _*_, _≤_, _<_}
 use lib.Dec.{eqb}
 use lib.ListN.{length, getD, set}
@@ -48,11 +49,19 @@ pub record Worked (exprs values before work : List ℕ) (e value : ℕ) : Type 0
 abbrev pub noted : List ℕ → ℕ → ℕ → List ℕ
 noted work e value = set (set work (256 + e) value) (1280 + e) (getD work 2304 0)
 
--- All expressions before i are worked, and `last` is the value of the one right before it.
+-- The values of all expressions before i stand in `work`, and `last` is that of the one right before it.
 pub record WorkedTo (exprs values work : List ℕ) (i last : ℕ) : Type 0 where
   pub memo : Memo exprs values work
-  pub worked : (e : ℕ) → e < i → getD work (1280 + e) 0 ≡ getD work 2304 0
+  pub stand : (e : ℕ) → e < i → getD work (256 + e) 0 ≡ getD (exprValues exprs values) e 0
   pub right : (e : ℕ) → suc e ≡ i → last ≡ getD (exprValues exprs values) e 0
+
+-- Some expressions before i are noted at the present moment, and nothing else is written.
+pub record NotedTo (before work : List ℕ) (i : ℕ) : Type 0 where
+  pub size : length work ≡ 3331
+  pub front : (j : ℕ) → j < 1280 → getD work j 0 ≡ getD before j 0
+  pub moments : (e : ℕ) → e < 1024
+      → (getD work (1280 + e) 0 ≡ getD before (1280 + e) 0) ⊎ ((e < i) × (getD work (1280 + e) 0 ≡ getD before 2304 0))
+  pub kept : KeptFrom 2304 before work
 
 -- The moments at the places from 1280 up to i are 0, and nothing else is written.
 pub record Forgotten (before work : List ℕ) (i : ℕ) : Type 0 where

@@ -87,8 +87,8 @@ returns-3 c =
     right-by-operands exprs values f i (c .before .before .before .before .before .op-of .result) (p .result)
     (q .result) (x .result) (y .result) (c .apply-op .result) l many
     (c .before .before .before .before .before .op-of .ensures) ep eq
-    (read (p .result) (x .result) (omega arith) (omega arith) (x .ensures))
-    (read (q .result) (y .result) (omega arith) (omega arith) (y .ensures)) (c .apply-op .ensures)
+    (read (p .result) (x .result) (omega arith) (x .ensures))
+    (read (q .result) (y .result) (omega arith) (y .ensures)) (c .apply-op .ensures)
 
 pub next-value-spec : {M : Type 1} → statement M
 next-value-spec =

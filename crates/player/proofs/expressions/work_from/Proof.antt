@@ -1,0 +1,102 @@
+-- `work_from` works one expression a turn.
+use mathlib.Core.Path.{_≡_, refl, _∙_}
+use mathlib.Core.List.{List}
+use Prim.Native.Nat.{ℕ, _+_, _-_, _≤_}
+use native.Mathlib.Omega.{arith}
+use lib.Seq.{getD-set-other}
+use borrow.Author.Needs.{needs}
+use Rattle.player.specs.Work.{Formulas, Memo, WorkedTo, KeptFrom}
+use Rattle.player.proofs.MomentLaws.{worked-first, worked-next}
+use Rattle.player.proofs.expressions.work_from.Statement.{statement}
+use Rattle.player.proofs.expressions.work_from.Tie as tie
+
+abbrev Inv-loop : tie.InvT-loop
+Inv-loop exprs work₀ from e last₀ i₀ work last i =
+    (i ≤ e + 1) × KeptFrom 1280 work₀ work
+    × ((values : List ℕ) → Formulas exprs values → Memo exprs values work₀ → WorkedTo exprs values work i last)
+
+abbrev μ-loop : tie.MeasureT-loop
+μ-loop exprs work₀ from e last₀ i₀ work last i = e + 1 - i
+
+value-before-requires : tie.Need-value-before-requires Inv-loop μ-loop
+value-before-requires c κs =
+    let ((l, u), ((values, f, m), moments)) = c .before .before .pre in
+    let fit = f .exprsFit in
+    omega arith
+
+loop-holds : tie.Need-loop-holds Inv-loop μ-loop
+loop-holds c =
+    let start = c .before .before .before in
+    let a = start .args in
+    let ((l, u), (known, moments)) = start .pre in (
+      omega arith,
+      λ j v. refl,
+      λ values f m.
+          let fit = f .exprsFit in
+          worked-first (a .exprs .now) values (a .work .now) (a .from) (c .value-before .result) (omega arith) m moments
+          (c .value-before .ensures),
+    )
+
+next-value-requires : tie.Need-next-value-requires Inv-loop μ-loop
+next-value-requires c κs =
+    let l = c .before .before .loop in
+    let ((u, v), ((values, f, m), moments)) = c .before .before .before .before .before .before .pre in
+    (omega arith, (values, f, l .inv .2 values f m))
+
+-- there are at most 1,024 expressions
+add-work : tie.Need-add-work Inv-loop μ-loop
+add-work c =
+    let ((u, v), ((values, f, m), moments)) = c .before .before .before .before .before .before .before .pre in
+    record { fits = search (needs, f .exprsFit) }
+
+element-write-work : tie.Need-element-write-work Inv-loop μ-loop
+element-write-work c =
+    let ((u, v), ((values, f, m), moments)) = c .before .before .before .before .before .before .before .pre in
+    let fit = f .exprsFit in
+    let more = c .before .before .loop-test .taken in
+    omega arith
+
+add-i : tie.Need-add-i Inv-loop μ-loop
+add-i c =
+    let ((u, v), ((values, f, m), moments)) = c .before .before .before .before .before .before .before .pre in
+    record { fits = search (needs, f .exprsFit) }
+
+loop-again : tie.Need-loop-again Inv-loop μ-loop
+loop-again c =
+    let l = c .before .before .before .loop in
+    let start = c .before .before .before .before .before .before .before in
+    let ((u, v), ((values₀, f₀, m₀), moments)) = start .pre in
+    let fit = f₀ .exprsFit in
+    let next = c .next-value in (
+      omega arith,
+      λ j w. getD-set-other (l .work) (256 + l .i) j (next .result) 0 (λ (d : j ≡ 256 + l .i). omega arith) ∙ l .inv .1 j w,
+      λ values f m.
+          let w = l .inv .2 values f m in
+          worked-next (start .args .exprs .now) values (l .work) (l .i) (l .last) w (next .result) (omega arith)
+          (next .ensures values f w),
+    )
+
+returns : tie.Need-returns Inv-loop μ-loop
+returns c =
+    let l = c .before .loop in
+    let a = c .before .before .before .before .before .args in
+    let end : l .i ≡ a .e + 1 = omega (arith, l .inv .0, c .loop-test .left) in
+    (λ values f m. rw end at (l .inv .2 values f m), l .inv .1)
+
+pub work-from-spec : {M : Type 1} → statement M
+work-from-spec =
+    tie.close
+    (tie.spec
+    Inv-loop
+    μ-loop
+    value-before-requires
+    loop-holds
+    next-value-requires
+    (λ c. search needs)
+    add-work
+    (λ c. search needs)
+    element-write-work
+    add-i
+    (λ c. search needs)
+    loop-again
+    returns)
