@@ -2,8 +2,8 @@
 use crate::channels;
 use crate::claims::CLAIMS;
 use crate::entries;
-use crate::expressions;
 use crate::marks;
+use crate::moments;
 use crate::stores;
 use crate::undo;
 use crate::visits;
@@ -76,7 +76,7 @@ fn store(values: &mut [u16], work: &mut [u16; WORK], claims: &mut [u16; CLAIMS])
         → StoreAnswer x (now (values .exit)) (now (work .exit)) (now (claims .exit))) ⌝ }
 {
     if stores::store_all(values, work, claims) {
-        expressions::next_moment(work);
+        moments::next_moment(work);
     }
 }
 

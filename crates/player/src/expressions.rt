@@ -1,4 +1,6 @@
-// The values of single expressions, worked when they are asked for and at most once while no value changes.
+// The values of single expressions, worked when they are asked for. What takes more than a step on numbers and variables is
+// worked once and noted while no value changes.
+use crate::passes;
 use crate::records::op_of;
 use crate::records::p_of;
 use crate::records::q_of;
@@ -6,60 +8,21 @@ use crate::work::MOMENTS;
 use crate::work::NOW;
 use crate::work::VALUES;
 use crate::work::WORK;
+use crate::work::value_of_variable;
 use program::VarId;
 use program::ops::NUMBER;
 use program::ops::VARIABLE;
 ghost use mathlib.Core.Path.{_≡_};
-ghost use mathlib.Core.Bool.{cond};
 ghost use mathlib.Core.List.{List};
-ghost use Prim.Native.Nat.{ℕ, suc, _+_, _*_, _≤_, _<_};
+ghost use Prim.Native.Nat.{ℕ, _+_, _*_, _≤_, _<_};
 ghost use lib.Dec.{eqb};
-ghost use lib.ListN.{length, getD};
+ghost use lib.ListN.{getD};
 ghost use Rattle.semantics.specs.Program.{exprCount};
-ghost use Rattle.semantics.specs.Expressions.{exprValues};
-ghost use Rattle.player.specs.Work.{Formulas, Memo, Worked, WorkedTo, KeptFrom, NotedTo, Forgotten, Unworked, Handed, noted};
+ghost use Rattle.player.specs.Work.{Formulas, Memo, Worked, Handed, noted};
 
 // How many expressions may be worked inside one another. Where it takes more, all up to one of them are worked from left
 // to right.
 const NESTED_MAX: u16 = 32;
-
-// ---- moments
-
-// No expression is worked at any moment above 0.
-fn forget_all(work: &mut [u16; WORK])
-    requires { ⌜ length (now work) ≡ 3331 ⌝ }
-    ensures { λ _. ⌜ Forgotten (now (work .entry)) (now (work .exit)) 2304 ⌝ }
-{
-    let mut i: usize = MOMENTS;
-    while i < NOW {
-        work[i] = 0;
-        i += 1;
-    }
-}
-
-// A moment at which nothing is worked yet follows the present one.
-pub fn next_moment(work: &mut [u16; WORK])
-    requires { ⌜ length (now work) ≡ 3331 ⌝ }
-    requires { ⌜ ((e : ℕ) → e < 1024 → getD (now work) (1280 + e) 0 ≤ getD (now work) 2304 0) ⌝ }
-    ensures { λ _. ⌜ Unworked (now (work .entry)) (now (work .exit)) ⌝ }
-{
-    if work[NOW] < 65535 {
-        work[NOW] += 1;
-    } else {
-        forget_all(work);
-        work[NOW] = 1;
-    }
-}
-
-// ---- values
-
-fn value_of_variable(work: &[u16; WORK], v: VarId) -> u16
-    requires { ⌜ (v .0 < 256) ⌝ }
-    ensures { λ r. ⌜ r ≡ getD (now (work .entry)) (v .0) 0 ⌝ }
-{
-    let at = v.0 as usize;
-    work[at]
-}
 
 // What can be read of an expression without working it: whether its value, and that.
 struct AtHand {
@@ -80,7 +43,8 @@ fn worked_before(work: &[u16; WORK], e: u16) -> AtHand
     }
 }
 
-// A number and a variable are always at hand.
+// A number and a variable are always at hand. It is not made of `plain`, for that takes a sixth more instructions where
+// expressions nest deep.
 fn at_hand(exprs: &[u16], work: &[u16; WORK], e: u16) -> AtHand
     requires { ⌜ e < exprCount (now exprs) ⌝ }
     requires { ⌜ ((values : List ℕ) × Formulas (now exprs) values × Memo (now exprs) values (now work)) ⌝ }
@@ -100,21 +64,6 @@ fn at_hand(exprs: &[u16], work: &[u16; WORK], e: u16) -> AtHand
         },
         _ => worked_before(work, e),
     }
-}
-
-// The value of expression e at the present moment.
-pub fn value(exprs: &[u16], work: &mut [u16; WORK], e: u16) -> u16
-    requires { ⌜ e < exprCount (now exprs) ⌝ }
-    requires { ⌜ ((values : List ℕ) × Formulas (now exprs) values × Memo (now exprs) values (now work)) ⌝ }
-    ensures { λ r. ⌜ ((values : List ℕ) → Formulas (now (exprs .entry)) values
-        → Memo (now (exprs .entry)) values (now (work .entry))
-        → Worked (now (exprs .entry)) values (now (work .entry)) (now (work .exit)) e r) ⌝ }
-{
-    let hand = at_hand(exprs, work, e);
-    if hand.known {
-        return hand.value;
-    }
-    worked_value(exprs, work, NESTED_MAX, e)
 }
 
 // A number's or a variable's value; of any other expression nothing is read.
@@ -142,9 +91,46 @@ fn plain(exprs: &[u16], work: &[u16; WORK], e: u16) -> AtHand
     }
 }
 
-// The value of expression e at the present moment, where a step on numbers and variables alone is made in place: that is
-// as quick as to look whether it was made before, so it is not noted. Conditions use `value`: there the larger code costs
-// more than it gains.
+// The value of expression e, which has two operands, where both are plain: a step on them is as quick as to look whether it
+// was made before, so it is never noted.
+fn step(exprs: &[u16], work: &[u16; WORK], e: u16) -> AtHand
+    requires { ⌜ (e < exprCount (now exprs)) × (2 ≤ getD (now exprs) (3 * e) 0) ⌝ }
+    requires { ⌜ ((values : List ℕ) × Formulas (now exprs) values × Memo (now exprs) values (now work)) ⌝ }
+    ensures { λ r. ⌜ ((values : List ℕ) → Formulas (now (exprs .entry)) values
+        → Memo (now (exprs .entry)) values (now (work .entry))
+        → Handed (now (exprs .entry)) values e (r .known) (r .value)) ⌝ }
+{
+    let x = plain(exprs, work, p_of(exprs, e));
+    let y = plain(exprs, work, q_of(exprs, e));
+    if x.known & y.known {
+        return AtHand {
+            known: true,
+            value: program::apply_op(op_of(exprs, e), x.value, y.value),
+        };
+    }
+    AtHand {
+        known: false,
+        value: 0,
+    }
+}
+
+// The value of expression e at the present moment.
+pub fn value(exprs: &[u16], work: &mut [u16; WORK], e: u16) -> u16
+    requires { ⌜ e < exprCount (now exprs) ⌝ }
+    requires { ⌜ ((values : List ℕ) × Formulas (now exprs) values × Memo (now exprs) values (now work)) ⌝ }
+    ensures { λ r. ⌜ ((values : List ℕ) → Formulas (now (exprs .entry)) values
+        → Memo (now (exprs .entry)) values (now (work .entry))
+        → Worked (now (exprs .entry)) values (now (work .entry)) (now (work .exit)) e r) ⌝ }
+{
+    let own = plain(exprs, work, e);
+    if own.known {
+        return own.value;
+    }
+    compound(exprs, work, e)
+}
+
+// The same, for right sides: here a step on plain operands is worth being made without a call, which in the walks, where
+// conditions are read, costs more than it gains.
 pub fn right_side(exprs: &[u16], work: &mut [u16; WORK], e: u16) -> u16
     requires { ⌜ e < exprCount (now exprs) ⌝ }
     requires { ⌜ ((values : List ℕ) × Formulas (now exprs) values × Memo (now exprs) values (now work)) ⌝ }
@@ -156,17 +142,34 @@ pub fn right_side(exprs: &[u16], work: &mut [u16; WORK], e: u16) -> u16
     if own.known {
         return own.value;
     }
-    let x = plain(exprs, work, p_of(exprs, e));
-    let y = plain(exprs, work, q_of(exprs, e));
-    if x.known & y.known {
-        return program::apply_op(op_of(exprs, e), x.value, y.value);
+    let made = step(exprs, work, e);
+    if made.known {
+        return made.value;
     }
-    value(exprs, work, e)
+    compound(exprs, work, e)
 }
 
-// What `value` gives, inside another expression, where so many more may be worked inside one another. It is a function
-// beside `value` so that `worked_value`, which both call, stays one: then an operand that is at hand is read without a
-// call.
+// The value of expression e, which has two operands. It is called from several places, so that the compiler keeps it one
+// function: made part of the walks, it would slow them down.
+fn compound(exprs: &[u16], work: &mut [u16; WORK], e: u16) -> u16
+    requires { ⌜ (e < exprCount (now exprs)) × (2 ≤ getD (now exprs) (3 * e) 0) ⌝ }
+    requires { ⌜ ((values : List ℕ) × Formulas (now exprs) values × Memo (now exprs) values (now work)) ⌝ }
+    ensures { λ r. ⌜ ((values : List ℕ) → Formulas (now (exprs .entry)) values
+        → Memo (now (exprs .entry)) values (now (work .entry))
+        → Worked (now (exprs .entry)) values (now (work .entry)) (now (work .exit)) e r) ⌝ }
+{
+    let made = step(exprs, work, e);
+    if made.known {
+        return made.value;
+    }
+    let noted = worked_before(work, e);
+    if noted.known {
+        return noted.value;
+    }
+    worked_value(exprs, work, NESTED_MAX, e)
+}
+
+// The value of expression e inside another, where so many more may be worked inside one another.
 fn operand_value(exprs: &[u16], work: &mut [u16; WORK], nested: u16, e: u16) -> u16
     requires { ⌜ e < exprCount (now exprs) ⌝ }
     requires { ⌜ ((values : List ℕ) × Formulas (now exprs) values × Memo (now exprs) values (now work)) ⌝ }
@@ -190,7 +193,7 @@ fn worked_value(exprs: &[u16], work: &mut [u16; WORK], nested: u16, e: u16) -> u
         → Worked (now (exprs .entry)) values (now (work .entry)) (now (work .exit)) e r) ⌝ }
 {
     if nested == 0 {
-        return work_up_to(exprs, work, e);
+        return passes::work_up_to(exprs, work, e);
     }
     let x = operand_value(exprs, work, nested - 1, p_of(exprs, e));
     let y = operand_value(exprs, work, nested - 1, q_of(exprs, e));
@@ -208,114 +211,4 @@ fn keep(work: &mut [u16; WORK], e: u16, value: u16)
     work[VALUES + at] = value;
     let now = work[NOW];
     work[MOMENTS + at] = now;
-}
-
-// ---- from left to right
-
-// The value of e, and with it of all expressions before it. Those that were worked first of all are not worked again.
-fn work_up_to(exprs: &[u16], work: &mut [u16; WORK], e: u16) -> u16
-    requires { ⌜ e < exprCount (now exprs) ⌝ }
-    requires { ⌜ ((values : List ℕ) × Formulas (now exprs) values × Memo (now exprs) values (now work)) ⌝ }
-    ensures { λ r. ⌜ ((values : List ℕ) → Formulas (now (exprs .entry)) values
-        → Memo (now (exprs .entry)) values (now (work .entry))
-        → Worked (now (exprs .entry)) values (now (work .entry)) (now (work .exit)) e r) ⌝ }
-{
-    let from = first_unworked(work, e);
-    let value = work_from(exprs, work, from, e);
-    note_from(work, from, e);
-    value
-}
-
-// The first expression that is not worked at the present moment, or e where all before e are.
-fn first_unworked(work: &[u16; WORK], e: u16) -> u16
-    requires { ⌜ e < 1024 ⌝ }
-    ensures { λ r. ⌜ (r ≤ e) × ((j : ℕ) → j < r → getD (now (work .entry)) (1280 + j) 0 ≡ getD (now (work .entry)) 2304 0) ⌝ }
-{
-    let mut i: u16 = 0;
-    while i < e {
-        if work[MOMENTS + (i as usize)] != work[NOW] {
-            return i;
-        }
-        i += 1;
-    }
-    i
-}
-
-// The value of the expression right before i, where there is one.
-fn value_before(work: &[u16; WORK], i: u16) -> u16
-    requires { ⌜ i ≤ 1024 ⌝ }
-    ensures { λ r. ⌜ ((e : ℕ) → suc e ≡ i → r ≡ getD (now (work .entry)) (256 + e) 0) ⌝ }
-{
-    if i == 0 {
-        return 0;
-    }
-    let last = (i - 1) as usize;
-    work[VALUES + last]
-}
-
-// Works the expressions from one up to e, where all before it are worked. Moments are written in a pass of their own, which
-// the compiler makes a copy of many words at a time.
-fn work_from(exprs: &[u16], work: &mut [u16; WORK], from: u16, e: u16) -> u16
-    requires { ⌜ (e < exprCount (now exprs)) × (from ≤ e) ⌝ }
-    requires { ⌜ ((values : List ℕ) × Formulas (now exprs) values × Memo (now exprs) values (now work))
-        × ((j : ℕ) → j < from → getD (now work) (1280 + j) 0 ≡ getD (now work) 2304 0) ⌝ }
-    ensures { λ r. ⌜ ((values : List ℕ) → Formulas (now (exprs .entry)) values
-        → Memo (now (exprs .entry)) values (now (work .entry))
-        → WorkedTo (now (exprs .entry)) values (now (work .exit)) (e + 1) r) ⌝ }
-    ensures { λ _. ⌜ KeptFrom 1280 (now (work .entry)) (now (work .exit)) ⌝ }
-{
-    let mut last = value_before(work, from);
-    let mut i = from;
-    while i <= e {
-        last = next_value(exprs, work, i, last);
-        work[VALUES + (i as usize)] = last;
-        i += 1;
-    }
-    last
-}
-
-// The expressions from one up to e are worked at the present moment.
-fn note_from(work: &mut [u16; WORK], from: u16, e: u16)
-    requires { ⌜ (e < 1024) × (from ≤ e) × (length (now work) ≡ 3331) ⌝ }
-    ensures { λ _. ⌜ NotedTo (now (work .entry)) (now (work .exit)) (e + 1) ⌝ }
-{
-    let now = work[NOW];
-    let mut i = from;
-    while i <= e {
-        work[MOMENTS + (i as usize)] = now;
-        i += 1;
-    }
-}
-
-// The value of expression i, where those of all before it stand in `work`, and `last` is that of the one right before it. Tests in place of a match: nearly all expressions that are worked in this pass have
-// two operands, and one test tells them.
-fn next_value(exprs: &[u16], work: &[u16; WORK], i: u16, last: u16) -> u16
-    requires { ⌜ i < exprCount (now exprs) ⌝ }
-    requires { ⌜ ((values : List ℕ) × Formulas (now exprs) values × WorkedTo (now exprs) values (now work) i last) ⌝ }
-    ensures { λ r. ⌜ ((values : List ℕ) → Formulas (now (exprs .entry)) values
-        → WorkedTo (now (exprs .entry)) values (now (work .entry)) i last
-        → r ≡ getD (exprValues (now (exprs .entry)) values) i 0) ⌝ }
-{
-    let p = p_of(exprs, i);
-    let op = op_of(exprs, i);
-    if op <= VARIABLE {
-        if op == NUMBER {
-            return p;
-        }
-        return value_of_variable(work, VarId(p));
-    }
-    let y = before(work, q_of(exprs, i), i, last);
-    program::apply_op(op, before(work, p, i, last), y)
-}
-
-// The value of an expression p before expression i: that of the one right before it need not be read back.
-fn before(work: &[u16; WORK], p: u16, i: u16, last: u16) -> u16
-    requires { ⌜ (p < i) × (i < 1024) ⌝ }
-    ensures { λ r. ⌜ r ≡ cond (eqb (p + 1) i) last (getD (now (work .entry)) (256 + p) 0) ⌝ }
-{
-    let at = p as usize;
-    if at + 1 == i as usize {
-        return last;
-    }
-    work[VALUES + at]
 }

@@ -11,6 +11,8 @@ mod expressions; // the values of single expressions
 mod leave; // leaving a node
 mod lengths; // question 5
 mod marks; // marks, and how many stand
+mod moments; // while no value changes
+mod passes; // expressions from left to right
 mod records; // the words of the records
 mod root; // entering node 0
 mod start; // what a run starts with

@@ -1,5 +1,10 @@
 // The places of `work`, what a run keeps beside the lent lists (specs/Work.antt). It is one array, so that few parameters
 // go down the walks.
+use program::VarId;
+ghost use mathlib.Core.Path.{_≡_};
+ghost use Prim.Native.Nat.{_<_};
+ghost use lib.ListN.{getD};
+
 pub const VALUES: usize = 256;
 
 pub const MOMENTS: usize = 1280;
@@ -13,3 +18,12 @@ pub const LOOPED: usize = 2306;
 pub const PARENTS: usize = 2307;
 
 pub const WORK: usize = 3331;
+
+// The value of a variable, as `work` has it.
+pub fn value_of_variable(work: &[u16; WORK], v: VarId) -> u16
+    requires { ⌜ (v .0 < 256) ⌝ }
+    ensures { λ r. ⌜ r ≡ getD (now (work .entry)) (v .0) 0 ⌝ }
+{
+    let at = v.0 as usize;
+    work[at]
+}

@@ -13,7 +13,7 @@ use Rattle.player.proofs.records.p_of.Reads as p-of-reads
 use Rattle.player.proofs.records.q_of.Reads as q-of-reads
 use Rattle.player.proofs.expressions.keep.Reads as keep-reads
 use Rattle.player.proofs.expressions.at_hand.Reads as at-hand-reads
-use Rattle.player.proofs.expressions.work_up_to.Reads as work-up-to-reads
+use Rattle.player.proofs.passes.work_up_to.Reads as work-up-to-reads
 use Rattle.player.proofs.expressions.operand_value.Reads as operand-reads
 use Rattle.player.proofs.expressions.operand_value.Kinds as operand-kinds
 use Rattle.player.proofs.expressions.worked_value.Reads as worked-reads

@@ -5,8 +5,8 @@ use native.Mathlib.Omega.{arith}
 use borrow.Author.Needs.{needs}
 use Rattle.player.specs.Work.{NotedTo}
 use Rattle.player.proofs.MomentLaws.{noted-none, noted-one}
-use Rattle.player.proofs.expressions.note_from.Statement.{statement}
-use Rattle.player.proofs.expressions.note_from.Tie as tie
+use Rattle.player.proofs.passes.note_from.Statement.{statement}
+use Rattle.player.proofs.passes.note_from.Tie as tie
 
 abbrev Inv-loop : tie.InvT-loop
 Inv-loop work₀ from e now i₀ work i = (i ≤ e + 1) × NotedTo work₀ work i

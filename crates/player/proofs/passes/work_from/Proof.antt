@@ -7,8 +7,8 @@ use lib.Seq.{getD-set-other}
 use borrow.Author.Needs.{needs}
 use Rattle.player.specs.Work.{Formulas, Memo, WorkedTo, KeptFrom}
 use Rattle.player.proofs.MomentLaws.{worked-first, worked-next}
-use Rattle.player.proofs.expressions.work_from.Statement.{statement}
-use Rattle.player.proofs.expressions.work_from.Tie as tie
+use Rattle.player.proofs.passes.work_from.Statement.{statement}
+use Rattle.player.proofs.passes.work_from.Tie as tie
 
 abbrev Inv-loop : tie.InvT-loop
 Inv-loop exprs work₀ from e last₀ i₀ work last i =

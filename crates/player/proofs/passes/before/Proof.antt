@@ -1,8 +1,8 @@
 -- `before` answers by the test of its contract.
 use borrow.Author.Needs.{needs}
 use borrow.Author.Tests.{eq-eqb, ne-eqb}
-use Rattle.player.proofs.expressions.before.Statement.{statement}
-use Rattle.player.proofs.expressions.before.Tie as tie
+use Rattle.player.proofs.passes.before.Statement.{statement}
+use Rattle.player.proofs.passes.before.Tie as tie
 
 returns : tie.Need-returns
 returns c = rw (eq-eqb _ _ (c .if1 .taken))

@@ -5,8 +5,8 @@ use native.Mathlib.Omega.{arith}
 use borrow.Author.Needs.{needs}
 use Rattle.player.specs.Work.{Forgotten}
 use Rattle.player.proofs.MomentLaws.{none-forgotten, one-forgotten}
-use Rattle.player.proofs.expressions.forget_all.Statement.{statement}
-use Rattle.player.proofs.expressions.forget_all.Tie as tie
+use Rattle.player.proofs.moments.forget_all.Statement.{statement}
+use Rattle.player.proofs.moments.forget_all.Tie as tie
 
 abbrev Inv-loop : tie.InvT-loop
 Inv-loop work₀ i₀ work i = Forgotten work₀ work i

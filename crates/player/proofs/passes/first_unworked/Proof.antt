@@ -6,8 +6,8 @@ use native.Mathlib.Omega.{arith}
 use lib.ListN.{getD}
 use borrow.Author.Needs.{needs}
 use Rattle.semantics.proofs.Lists.Logic.{lt-or-le}
-use Rattle.player.proofs.expressions.first_unworked.Statement.{statement}
-use Rattle.player.proofs.expressions.first_unworked.Tie as tie
+use Rattle.player.proofs.passes.first_unworked.Statement.{statement}
+use Rattle.player.proofs.passes.first_unworked.Tie as tie
 
 abbrev Inv-loop : tie.InvT-loop
 Inv-loop work e i₀ i = (i ≤ e) × ((j : ℕ) → j < i → getD work (1280 + j) 0 ≡ getD work 2304 0)

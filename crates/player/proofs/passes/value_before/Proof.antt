@@ -4,8 +4,8 @@ use Prim.Native.Nat.{ℕ, suc, _+_, _-_}
 use native.Mathlib.Omega.{arith}
 use lib.ListN.{getD}
 use borrow.Author.Needs.{needs}
-use Rattle.player.proofs.expressions.value_before.Statement.{statement}
-use Rattle.player.proofs.expressions.value_before.Tie as tie
+use Rattle.player.proofs.passes.value_before.Statement.{statement}
+use Rattle.player.proofs.passes.value_before.Tie as tie
 
 returns : tie.Need-returns
 returns c = λ e (h : suc e ≡ c .before .args .i). absurd (omega (arith, h, c .if1 .taken))

@@ -8,8 +8,8 @@ use borrow.Author.Needs.{needs}
 use Rattle.player.proofs.MomentLaws.{value-before}
 use Rattle.player.proofs.OperandLaws.{operands-before, variable-place}
 use Rattle.player.proofs.OperandLaws.{value-of-number, right-by-variable, right-by-operands}
-use Rattle.player.proofs.expressions.next_value.Statement.{statement}
-use Rattle.player.proofs.expressions.next_value.Tie as tie
+use Rattle.player.proofs.passes.next_value.Statement.{statement}
+use Rattle.player.proofs.passes.next_value.Tie as tie
 
 -- an op up to VARIABLE that is not NUMBER
 variable : (c : tie.Else2) → let a = c .before .before .before .before .before .args in

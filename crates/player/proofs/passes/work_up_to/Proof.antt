@@ -3,8 +3,8 @@ use mathlib.Core.Path.{_≡_, _∙_}
 use Prim.Native.Nat.{suc, _+_}
 use native.Mathlib.Omega.{arith}
 use Rattle.player.proofs.MomentLaws.{memo-all-noted}
-use Rattle.player.proofs.expressions.work_up_to.Statement.{statement}
-use Rattle.player.proofs.expressions.work_up_to.Tie as tie
+use Rattle.player.proofs.passes.work_up_to.Statement.{statement}
+use Rattle.player.proofs.passes.work_up_to.Tie as tie
 
 first-unworked-requires : tie.Need-first-unworked-requires
 first-unworked-requires c κs =

@@ -5,8 +5,8 @@ use Prim.Native.Nat.{_+_}
 use lib.ListN.{getD}
 use borrow.Author.Needs.{needs}
 use Rattle.player.proofs.MomentLaws.{unworked-at}
-use Rattle.player.proofs.expressions.next_moment.Statement.{statement}
-use Rattle.player.proofs.expressions.next_moment.Tie as tie
+use Rattle.player.proofs.moments.next_moment.Statement.{statement}
+use Rattle.player.proofs.moments.next_moment.Tie as tie
 
 returns : tie.Need-returns
 returns c =

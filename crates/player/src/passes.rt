@@ -1,0 +1,129 @@
+// Expressions worked from left to right, without a call inside a call.
+use crate::records::op_of;
+use crate::records::p_of;
+use crate::records::q_of;
+use crate::work::MOMENTS;
+use crate::work::NOW;
+use crate::work::VALUES;
+use crate::work::WORK;
+use crate::work::value_of_variable;
+use program::VarId;
+use program::ops::NUMBER;
+use program::ops::VARIABLE;
+ghost use mathlib.Core.Path.{_≡_};
+ghost use mathlib.Core.Bool.{cond};
+ghost use mathlib.Core.List.{List};
+ghost use Prim.Native.Nat.{ℕ, suc, _+_, _≤_, _<_};
+ghost use lib.Dec.{eqb};
+ghost use lib.ListN.{length, getD};
+ghost use Rattle.semantics.specs.Program.{exprCount};
+ghost use Rattle.semantics.specs.Expressions.{exprValues};
+ghost use Rattle.player.specs.Work.{Formulas, Memo, Worked, WorkedTo, KeptFrom, NotedTo};
+
+// The value of e, and with it of all expressions before it. Those that were worked first of all are not worked again.
+pub fn work_up_to(exprs: &[u16], work: &mut [u16; WORK], e: u16) -> u16
+    requires { ⌜ e < exprCount (now exprs) ⌝ }
+    requires { ⌜ ((values : List ℕ) × Formulas (now exprs) values × Memo (now exprs) values (now work)) ⌝ }
+    ensures { λ r. ⌜ ((values : List ℕ) → Formulas (now (exprs .entry)) values
+        → Memo (now (exprs .entry)) values (now (work .entry))
+        → Worked (now (exprs .entry)) values (now (work .entry)) (now (work .exit)) e r) ⌝ }
+{
+    let from = first_unworked(work, e);
+    let value = work_from(exprs, work, from, e);
+    note_from(work, from, e);
+    value
+}
+
+// The first expression that is not worked at the present moment, or e where all before e are.
+fn first_unworked(work: &[u16; WORK], e: u16) -> u16
+    requires { ⌜ e < 1024 ⌝ }
+    ensures { λ r. ⌜ (r ≤ e) × ((j : ℕ) → j < r → getD (now (work .entry)) (1280 + j) 0 ≡ getD (now (work .entry)) 2304 0) ⌝ }
+{
+    let mut i: u16 = 0;
+    while i < e {
+        if work[MOMENTS + (i as usize)] != work[NOW] {
+            return i;
+        }
+        i += 1;
+    }
+    i
+}
+
+// The value of the expression right before i, where there is one.
+fn value_before(work: &[u16; WORK], i: u16) -> u16
+    requires { ⌜ i ≤ 1024 ⌝ }
+    ensures { λ r. ⌜ ((e : ℕ) → suc e ≡ i → r ≡ getD (now (work .entry)) (256 + e) 0) ⌝ }
+{
+    if i == 0 {
+        return 0;
+    }
+    let last = (i - 1) as usize;
+    work[VALUES + last]
+}
+
+// Works the expressions from one up to e, where all before it are worked. Moments are written in a pass of their own, which
+// the compiler makes a copy of many words at a time.
+fn work_from(exprs: &[u16], work: &mut [u16; WORK], from: u16, e: u16) -> u16
+    requires { ⌜ (e < exprCount (now exprs)) × (from ≤ e) ⌝ }
+    requires { ⌜ ((values : List ℕ) × Formulas (now exprs) values × Memo (now exprs) values (now work))
+        × ((j : ℕ) → j < from → getD (now work) (1280 + j) 0 ≡ getD (now work) 2304 0) ⌝ }
+    ensures { λ r. ⌜ ((values : List ℕ) → Formulas (now (exprs .entry)) values
+        → Memo (now (exprs .entry)) values (now (work .entry))
+        → WorkedTo (now (exprs .entry)) values (now (work .exit)) (e + 1) r) ⌝ }
+    ensures { λ _. ⌜ KeptFrom 1280 (now (work .entry)) (now (work .exit)) ⌝ }
+{
+    let mut last = value_before(work, from);
+    let mut i = from;
+    while i <= e {
+        last = next_value(exprs, work, i, last);
+        work[VALUES + (i as usize)] = last;
+        i += 1;
+    }
+    last
+}
+
+// The expressions from one up to e are worked at the present moment.
+fn note_from(work: &mut [u16; WORK], from: u16, e: u16)
+    requires { ⌜ (e < 1024) × (from ≤ e) × (length (now work) ≡ 3331) ⌝ }
+    ensures { λ _. ⌜ NotedTo (now (work .entry)) (now (work .exit)) (e + 1) ⌝ }
+{
+    let now = work[NOW];
+    let mut i = from;
+    while i <= e {
+        work[MOMENTS + (i as usize)] = now;
+        i += 1;
+    }
+}
+
+// The value of expression i, where those of all before it stand in `work`, and `last` is that of the one right before it. Tests in place of a match: nearly all expressions that are worked in this pass have
+// two operands, and one test tells them.
+fn next_value(exprs: &[u16], work: &[u16; WORK], i: u16, last: u16) -> u16
+    requires { ⌜ i < exprCount (now exprs) ⌝ }
+    requires { ⌜ ((values : List ℕ) × Formulas (now exprs) values × WorkedTo (now exprs) values (now work) i last) ⌝ }
+    ensures { λ r. ⌜ ((values : List ℕ) → Formulas (now (exprs .entry)) values
+        → WorkedTo (now (exprs .entry)) values (now (work .entry)) i last
+        → r ≡ getD (exprValues (now (exprs .entry)) values) i 0) ⌝ }
+{
+    let p = p_of(exprs, i);
+    let op = op_of(exprs, i);
+    if op <= VARIABLE {
+        if op == NUMBER {
+            return p;
+        }
+        return value_of_variable(work, VarId(p));
+    }
+    let y = before(work, q_of(exprs, i), i, last);
+    program::apply_op(op, before(work, p, i, last), y)
+}
+
+// The value of an expression p before expression i: that of the one right before it need not be read back.
+fn before(work: &[u16; WORK], p: u16, i: u16, last: u16) -> u16
+    requires { ⌜ (p < i) × (i < 1024) ⌝ }
+    ensures { λ r. ⌜ r ≡ cond (eqb (p + 1) i) last (getD (now (work .entry)) (256 + p) 0) ⌝ }
+{
+    let at = p as usize;
+    if at + 1 == i as usize {
+        return last;
+    }
+    work[VALUES + at]
+}
