@@ -20,7 +20,7 @@ const MOST_FOR_BEGIN: usize = 19_456;
 const MOST_FOR_RUN: usize = 24_576;
 
 /// Levels of a formula, around the depths at which a way of working it may change.
-const LEVELS: [usize; 8] = [1, 2, 39, 47, 48, 49, 64, MOST_EXPRS - 8];
+const LEVELS: [usize; 8] = [1, 2, 23, 24, 25, 26, 64, MOST_EXPRS - 8];
 
 /// The greatest depths so far, and the programs that had them.
 #[derive(Default)]

@@ -22,7 +22,7 @@ ghost use Rattle.player.specs.Work.{Formulas, Memo, Worked, Handed, note
 
 // How many expressions may be worked inside one another. Where it takes more, all up to one of them are worked from left
 // to right.
-const NESTED_MAX: u16 = 32;
+const NESTED_MAX: u16 = 24;
 
 // What can be read of an expression without working it: whether its value, and that.
 struct AtHand {

@@ -95,8 +95,8 @@ fn note_from(work: &mut [u16; WORK], from: u16, e: u16)
     }
 }
 
-// The value of expression i, where those of all before it stand in `work`, and `last` is that of the one right before it. Tests in place of a match: nearly all expressions that are worked in this pass have
-// two operands, and one test tells them.
+// The value of expression i, where those of all before it stand in `work`, and `last` is that of the one right before it.
+// Nearly all expressions that are worked in this pass have two operands, so that these are told by the first test.
 fn next_value(exprs: &[u16], work: &[u16; WORK], i: u16, last: u16) -> u16
     requires { ⌜ i < exprCount (now exprs) ⌝ }
     requires { ⌜ ((values : List ℕ) × Formulas (now exprs) values × WorkedTo (now exprs) values (now work) i last) ⌝ }
@@ -106,14 +106,14 @@ fn next_value(exprs: &[u16], work: &[u16; WORK], i: u16, last: u16) -> u16
 {
     let p = p_of(exprs, i);
     let op = op_of(exprs, i);
-    if op <= VARIABLE {
-        if op == NUMBER {
-            return p;
-        }
-        return value_of_variable(work, VarId(p));
+    if VARIABLE < op {
+        let y = before(work, q_of(exprs, i), i, last);
+        return program::apply_op(op, before(work, p, i, last), y);
     }
-    let y = before(work, q_of(exprs, i), i, last);
-    program::apply_op(op, before(work, p, i, last), y)
+    if op == NUMBER {
+        return p;
+    }
+    value_of_variable(work, VarId(p))
 }
 
 // The value of an expression p before expression i: that of the one right before it need not be read back.

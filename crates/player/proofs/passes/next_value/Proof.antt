@@ -48,16 +48,16 @@ before-requires-2 c κs =
     let fit = f .exprsFit in
     (omega arith, omega arith)
 
-returns : tie.Need-returns
-returns c =
+returns-2 : tie.Need-returns-2
+returns-2 c =
     let start = c .before .before .before .before .before in
     let a = start .args in
     let op = sym (c .before .before .op-of .ensures) ∙ c .if2 .taken in
     λ values f w. c .before .before .before .p-of .ensures
     ∙ sym (value-of-number (a .exprs .now) values (a .i) (start .pre .0) op)
 
-returns-2 : tie.Need-returns-2
-returns-2 c =
+returns-3 : tie.Need-returns-3
+returns-3 c =
     let start = c .before .before .before .before .before .before in
     let a = start .args in
     let p = c .before .before .before .before .p-of in
@@ -66,8 +66,8 @@ returns-2 c =
     right-by-variable (a .exprs .now) values f (a .work .now) (a .i) (p .result) (x .result) (w .memo) (start .pre .0)
     (variable (c .before)) (p .ensures) (x .ensures)
 
-returns-3 : tie.Need-returns-3
-returns-3 c =
+returns : tie.Need-returns
+returns c =
     let start = atStart (c .before .before .before) in
     let exprs = start .args .exprs .now in
     let work = start .args .work .now in
@@ -96,11 +96,11 @@ next-value-spec =
     (tie.spec
     (λ c κs. search needs)
     (λ c κs. search needs)
-    returns
-    value-of-variable-requires
-    returns-2
     (λ c κs. search needs)
     before-requires
     before-requires-2
     (λ c κs. search needs)
+    returns
+    returns-2
+    value-of-variable-requires
     returns-3)
