@@ -203,13 +203,16 @@ module _ (exprs values work : List ℕ) where
           }
 
     -- the value of one before i, read back or not
-    pub value-before : (p x : ℕ) → p < i → x ≡ cond (eqb (p + 1) i) last (getD work (256 + p) 0)
-        → x ≡ getD (exprValues exprs values) p 0
-    value-before p x l = pick (eqb (p + 1) i) refl
+    pub value-before : (prev p x : ℕ) → p < i → (0 < i → suc prev ≡ i)
+        → x ≡ cond (eqb p prev) last (getD work (256 + p) 0) → x ≡ getD (exprValues exprs values) p 0
+    value-before prev p x l at = pick (eqb p prev) refl
       where
-        pick : (b : Bool) → eqb (p + 1) i ≡ b → x ≡ cond b last (getD work (256 + p) 0)
+        pick : (b : Bool) → eqb p prev ≡ b → x ≡ cond b last (getD work (256 + p) 0)
             → x ≡ getD (exprValues exprs values) p 0
-        pick true t h = let d = eqb-true (p + 1) i t in h ∙ w .right p (omega arith)
+        pick true t h =
+            let d = eqb-true p prev t in
+            let here = at (omega arith) in
+            h ∙ w .right p (omega arith)
         pick false t h = h ∙ w .stand p l
 
     -- and noted

@@ -49,16 +49,14 @@ fn first_unworked(work: &[u16; WORK], e: u16) -> u16
     i
 }
 
-// The value of the expression right before i, where there is one.
-fn value_before(work: &[u16; WORK], i: u16) -> u16
-    requires { ⌜ i ≤ 1024 ⌝ }
-    ensures { λ r. ⌜ ((e : ℕ) → suc e ≡ i → r ≡ getD (now (work .entry)) (256 + e) 0) ⌝ }
+// The index right before i, or 0 where there is none.
+fn index_before(i: u16) -> u16
+    ensures { λ r. ⌜ (0 < i → suc r ≡ i) × (r ≤ i) ⌝ }
 {
     if i == 0 {
         return 0;
     }
-    let last = (i - 1) as usize;
-    work[VALUES + last]
+    i - 1
 }
 
 // Works the expressions from one up to e, where all before it are worked. Moments are written in a pass of their own, which
@@ -72,11 +70,13 @@ fn work_from(exprs: &[u16], work: &mut [u16; WORK], from: u16, e: u16) -> u16
         → WorkedTo (now (exprs .entry)) values (now (work .exit)) (e + 1) r) ⌝ }
     ensures { λ _. ⌜ KeptFrom 1280 (now (work .entry)) (now (work .exit)) ⌝ }
 {
-    let mut last = value_before(work, from);
+    let mut prev = index_before(from);
+    let mut last = work[VALUES + (prev as usize)];
     let mut i = from;
     while i <= e {
-        last = next_value(exprs, work, i, last);
+        last = next_value(exprs, work, i, prev, last);
         work[VALUES + (i as usize)] = last;
+        prev = i;
         i += 1;
     }
     last
@@ -95,10 +95,10 @@ fn note_from(work: &mut [u16; WORK], from: u16, e: u16)
     }
 }
 
-// The value of expression i, where those of all before it stand in `work`, and `last` is that of the one right before it.
-// Nearly all expressions that are worked in this pass have two operands, so that these are told by the first test.
-fn next_value(exprs: &[u16], work: &[u16; WORK], i: u16, last: u16) -> u16
-    requires { ⌜ i < exprCount (now exprs) ⌝ }
+// The value of expression i, where those of all before it stand in `work`, and `last` is that of `prev`, the one right before
+// it. Nearly all expressions that are worked in this pass have two operands, so that these are told by the first test.
+fn next_value(exprs: &[u16], work: &[u16; WORK], i: u16, prev: u16, last: u16) -> u16
+    requires { ⌜ (i < exprCount (now exprs)) × (0 < i → suc prev ≡ i) ⌝ }
     requires { ⌜ ((values : List ℕ) × Formulas (now exprs) values × WorkedTo (now exprs) values (now work) i last) ⌝ }
     ensures { λ r. ⌜ ((values : List ℕ) → Formulas (now (exprs .entry)) values
         → WorkedTo (now (exprs .entry)) values (now (work .entry)) i last
@@ -107,8 +107,8 @@ fn next_value(exprs: &[u16], work: &[u16; WORK], i: u16, last: u16) -> u16
     let p = p_of(exprs, i);
     let op = op_of(exprs, i);
     if VARIABLE < op {
-        let y = before(work, q_of(exprs, i), i, last);
-        return program::apply_op(op, before(work, p, i, last), y);
+        let y = operand(work, q_of(exprs, i), prev, last);
+        return program::apply_op(op, operand(work, p, prev, last), y);
     }
     if op == NUMBER {
         return p;
@@ -116,14 +116,13 @@ fn next_value(exprs: &[u16], work: &[u16; WORK], i: u16, last: u16) -> u16
     value_of_variable(work, VarId(p))
 }
 
-// The value of an expression p before expression i: that of the one right before it need not be read back.
-fn before(work: &[u16; WORK], p: u16, i: u16, last: u16) -> u16
-    requires { ⌜ (p < i) × (i < 1024) ⌝ }
-    ensures { λ r. ⌜ r ≡ cond (eqb (p + 1) i) last (getD (now (work .entry)) (256 + p) 0) ⌝ }
+// The value of an operand p: `last`, which need not be read back, where it is `prev`.
+fn operand(work: &[u16; WORK], p: u16, prev: u16, last: u16) -> u16
+    requires { ⌜ p < 1024 ⌝ }
+    ensures { λ r. ⌜ r ≡ cond (eqb p prev) last (getD (now (work .entry)) (256 + p) 0) ⌝ }
 {
-    let at = p as usize;
-    if at + 1 == i as usize {
+    if p == prev {
         return last;
     }
-    work[VALUES + at]
+    work[VALUES + (p as usize)]
 }
