@@ -14,9 +14,9 @@ use pahmozil_tests::statement::Statement::{self, Asg, Dly, If, In, Out, Par, Seq
 use pahmozil_tests::workloads;
 use std::hint::black_box;
 
-/// Bytes that each call may write: what was measured (6,320, 18,712 and 21,944) and a margin.
+/// Bytes that each call may write: what was measured (6,320, 17,288 and 23,608) and a margin.
 const MOST_FOR_CHECK: usize = 6_656;
-const MOST_FOR_BEGIN: usize = 19_456;
+const MOST_FOR_BEGIN: usize = 18_432;
 const MOST_FOR_RUN: usize = 24_576;
 
 /// Levels of a formula, around the depths at which a way of working it may change.

@@ -43,8 +43,8 @@ fn worked_before(work: &[u16; WORK], e: u16) -> AtHand
     }
 }
 
-// A number and a variable are always at hand. It is not made of `plain`, for that takes a sixth more instructions where
-// expressions nest deep.
+// A number and a variable are always at hand. Neither this nor `plain` is made of the other: each way costs some programs up
+// to a seventh more instructions.
 fn at_hand(exprs: &[u16], work: &[u16; WORK], e: u16) -> AtHand
     requires { ⌜ e < exprCount (now exprs) ⌝ }
     requires { ⌜ ((values : List ℕ) × Formulas (now exprs) values × Memo (now exprs) values (now work)) ⌝ }
