@@ -10,7 +10,7 @@ use native.Mathlib.Nat.{le-refl, add-zero, zero-add}
 use native.Mathlib.Numerals.{add-one}
 use native.Mathlib.Omega.{arith}
 use lib.Dec.{eqb, eqb·zero-suc, eqb·suc-suc}
-use lib.ListN.{length, getD, set, replicate, getD-replicate, length-replicate, List·getD-eq-default}
+use lib.ListN.{length, getD, set, replicate}
 use lib.Seq.{getD-set-same, getD-set-other}
 use borrow.Author.Tests.{eq-eqb, ne-eqb, eqb-true, eqb-false}
 use Rattle.semantics.specs.Numbers.{upFrom, below, filter}
