@@ -20,7 +20,8 @@ ghost use Rattle.semantics.specs.Program.{exprCount};
 ghost use Rattle.semantics.specs.Expressions.{exprValues};
 ghost use Rattle.player.specs.Work.{Formulas, Memo, Worked, WorkedTo, KeptFrom, NotedTo};
 
-// The value of e, and with it of all expressions before it. Those that were worked first of all are not worked again.
+// The value of e, and with it of all expressions before it. The pass starts at the first that is not worked yet, so that
+// several deep formulas in one cycle take one pass together.
 pub fn work_up_to(exprs: &[u16], work: &mut [u16; WORK], e: u16) -> u16
     requires { ⌜ e < exprCount (now exprs) ⌝ }
     requires { ⌜ ((values : List ℕ) × Formulas (now exprs) values × Memo (now exprs) values (now work)) ⌝ }
@@ -59,8 +60,8 @@ fn index_before(i: u16) -> u16
     i - 1
 }
 
-// Works the expressions from one up to e, where all before it are worked. Moments are written in a pass of their own, which
-// the compiler makes a copy of many words at a time.
+// Works the expressions from one up to e, where all before it are worked. Moments are written in a loop of their own, which
+// the compiler makes into stores of many words at once.
 fn work_from(exprs: &[u16], work: &mut [u16; WORK], from: u16, e: u16) -> u16
     requires { ⌜ (e < exprCount (now exprs)) × (from ≤ e) ⌝ }
     requires { ⌜ ((values : List ℕ) × Formulas (now exprs) values × Memo (now exprs) values (now work))
@@ -96,7 +97,7 @@ fn note_from(work: &mut [u16; WORK], from: u16, e: u16)
 }
 
 // The value of expression i, where those of all before it stand in `work`, and `last` is that of `prev`, the one right before
-// it. Nearly all expressions that are worked in this pass have two operands, so that these are told by the first test.
+// it. A formula that nests deep is mostly expressions with two operands, so that these are told by the first test.
 fn next_value(exprs: &[u16], work: &[u16; WORK], i: u16, prev: u16, last: u16) -> u16
     requires { ⌜ (i < exprCount (now exprs)) × (0 < i → suc prev ≡ i) ⌝ }
     requires { ⌜ ((values : List ℕ) × Formulas (now exprs) values × WorkedTo (now exprs) values (now work) i last) ⌝ }
