@@ -5,6 +5,7 @@ pub mod Load
 pub mod AnyOrder
 pub mod WalksOnTree
 pub mod Stores
+pub mod InRange
 pub mod CycleOrder
 pub mod OrderOverCycles
 pub mod OrderRule

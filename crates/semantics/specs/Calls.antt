@@ -10,6 +10,7 @@ use Rattle.semantics.specs.Expressions.{isTrue}
 use Rattle.semantics.specs.Questions.{ask, firstNo}
 use Rattle.semantics.specs.Check.{checkQuestions}
 use Rattle.semantics.specs.Tree.{treeOf}
+use Rattle.semantics.specs.Widths.{valuesInRange}
 use Rattle.semantics.specs.State.{State, lengthsOk, wellFormed}
 use Rattle.semantics.specs.Walk.{Walk, walkOf, enter}
 use Rattle.semantics.specs.Run.{run}
@@ -29,16 +30,17 @@ rootWalk P values =
     let zeros : List ℕ = replicate (nodeCount (P .nodes)) 0 in
     walkOf (enter (isTrue P values) (treeOf (P .nodes)) (record { marks = zeros; counts = zeros; looped = false }))
 
--- Begin asks questions 1 to 5 and 10. It keeps the values and gives the marks and counts of `rootWalk`; where it
--- refuses, all three lists stay.
+-- Begin asks what check asks, question 5, question 6 of the values alone, and 10. It keeps the values and gives the
+-- marks and counts of `rootWalk`; where it refuses, all three lists stay.
 unfoldable pub beginAnswer : Program → State → Answer
 beginAnswer P s =
     let w = rootWalk P (s .values) in
-    let q = firstNo (checkQuestions P ++ ask 5 (lengthsOk P s) ∷ ask 10 (not (w .looped)) ∷ []) in
+    let inRange = valuesInRange (P .widths) (s .values) in
+    let q = firstNo (checkQuestions P ++ ask 5 (lengthsOk P s) ∷ ask 6 inRange ∷ ask 10 (not (w .looped)) ∷ []) in
     cond (eqb q 0) (answer 0 (record { values = s .values; marks = w .marks; counts = w .counts })) (answer q s)
 
--- Run asks questions 1 to 6 and then works cycles, each of which asks 7 to 10. Where one of 1 to 6 is answered no, no
--- cycle is worked and all three lists stay.
+-- Run asks what check asks, questions 5 and 6, and then works cycles, each of which asks 7 to 10. Where one of the former
+-- is answered no, no cycle is worked and all three lists stay.
 unfoldable pub runAnswer : Program → ℕ → State → List ℕ → Answer
 runAnswer P n s book =
     let r = run P n s book in

@@ -1,5 +1,5 @@
--- Questions 1 to 4 of "Questions in order", with the limits of "Program lists": which programs are accepted, and which
--- item has a fault.
+-- Questions 1 to 4 of "Questions in order", with the limits of "Program lists", and question 11 of request 1: which
+-- programs are accepted, and which item has a fault.
 use mathlib.Core.Bool.{Bool, true, false, cond, not, _&&_}
 use mathlib.Core.List.{List, [], _∷_}
 use mathlib.Core.Option.{Option, none, some}
@@ -14,6 +14,7 @@ use Rattle.semantics.specs.Program.Kind.{SEQ, PAR, IF, WHL, LEAF, UNKNOW
 use Rattle.semantics.specs.Program.Leaf.{ASG, IN, OUT, DLY}
 use Rattle.semantics.specs.Parents.{parent, depth, children}
 use Rattle.semantics.specs.Questions.{Question, ask, firstNo}
+use Rattle.semantics.specs.Widths.{widthsOk}
 
 -- ---- question 1
 -- Both lists are whole records, and N, E, V and C are within their limits.
@@ -111,6 +112,7 @@ checkQuestions P =
     ∷ ask 2 (every (exprOk P) (below (exprCount (P .exprs))))
     ∷ ask 3 (every (nodeOk (P .nodes)) (below (nodeCount (P .nodes))))
     ∷ ask 4 (every (referencesOk P) (below (nodeCount (P .nodes))))
+    ∷ ask 11 (widthsOk P)
     ∷ []
 
 -- The number that check gives.

@@ -10,6 +10,7 @@ use Rattle.semantics.specs.Numbers.{below, every, filter}
 use Rattle.semantics.specs.Program.{Program, Leaf, kindAt, aAt, bAt, leafTest}
 use Rattle.semantics.specs.Program.Leaf.{ASG, IN, OUT, DLY}
 use Rattle.semantics.specs.State.{active}
+use Rattle.semantics.specs.Widths.{truncated}
 
 abbrev pub isAsg : Leaf → Bool
 isAsg ASG = true
@@ -34,10 +35,11 @@ abbrev pub sentBy : List ℕ → List ℕ → Option ℕ
 sentBy nodes [] = none
 sentBy nodes (j ∷ js) = some (bAt nodes j)
 
--- Variable v gets the value that the table has for an expression. Where there is no expression, nothing is stored.
-abbrev pub storeValue : List ℕ → List ℕ → ℕ → Option ℕ → List ℕ
-storeValue table values v none = values
-storeValue table values v (some e) = set values v (getD table e 0)
+-- Variable v gets the value that the table has for an expression, as far as its width goes. Where there is no
+-- expression, nothing is stored.
+abbrev pub storeValue : List ℕ → List ℕ → List ℕ → ℕ → Option ℕ → List ℕ
+storeValue widths table values v none = values
+storeValue widths table values v (some e) = set values v (truncated widths v (getD table e 0))
 
 abbrev pub isEmpty : List ℕ → Bool
 isEmpty xs = eqb (length xs) 0
@@ -81,4 +83,4 @@ module _ (P : Program) (marks : List ℕ) where
 
   -- The one place that stores: entry i's store, where `table` has the right sides' values.
   unfoldable pub store : List ℕ → List ℕ → ℕ → List ℕ
-  store table values i = cond (stores i) (storeValue table values (target i) (source i)) values
+  store table values i = cond (stores i) (storeValue (P .widths) table values (target i) (source i)) values

@@ -1,4 +1,4 @@
--- No rules: what questions 1 to 6 say when they are answered yes, as facts. Contracts of the code below the calls ask
+-- No rules: what the questions before the first cycle say when they are answered yes, as facts. Contracts of the code below the calls ask
 -- and give these.
 use mathlib.Core.Path.{_≡_}
 use mathlib.Core.Bool.{Bool, true, false, _&&_}
@@ -10,6 +10,7 @@ use Rattle.semantics.specs.Numbers.{upFrom, filter}
 use Rattle.semantics.specs.Program.{Program, Kind, exprCount, nodeCount, kindAt, aAt}
 use Rattle.semantics.specs.Program.Kind.{SEQ, PAR, IF, WHL, LEAF, UNKNOWN}
 use Rattle.semantics.specs.Parents.{isChild}
+use Rattle.semantics.specs.Widths.{widthAt, widthOk}
 use Rattle.semantics.specs.Check.{exprOk, nodeOk, referencesOk}
 use Rattle.semantics.specs.Tree.{Stmt, statementOf, childrenFrom}
 use Rattle.semantics.specs.State.{State, lengthsOk, wellFormed, holdsMark, liveChildren}
@@ -30,12 +31,18 @@ pub record Sized (P : Program) : Type 0 where
 abbrev pub NodesOk : List ℕ → Type 0
 NodesOk nodes = (i : ℕ) → i < nodeCount nodes → nodeOk nodes i ≡ true
 
--- questions 1 to 4
+-- question 11
+pub record WidthsFit (P : Program) : Type 0 where
+  pub asMany : length (P .widths) ≡ P .variables
+  pub each : (v : ℕ) → v < P .variables → widthOk (widthAt (P .widths) v) ≡ true
+
+-- questions 1 to 4, and 11
 pub record Accepted (P : Program) : Type 0 where
   pub sizes : Sized P
   pub exprsOk : (i : ℕ) → i < exprCount (P .exprs) → exprOk P i ≡ true
   pub nodesOk : NodesOk (P .nodes)
   pub rangesOk : (i : ℕ) → i < nodeCount (P .nodes) → referencesOk P i ≡ true
+  pub widthsFit : WidthsFit P
 
 -- the statement of node i, with the statements of the nodes below it
 unfoldable pub statementAt : List ℕ → ℕ → Stmt

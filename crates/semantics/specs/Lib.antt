@@ -4,6 +4,7 @@
 pub mod Numbers
 -- "Program lists"
 pub mod Program
+pub mod Widths
 pub mod Expressions
 pub mod Parents
 pub mod Tree

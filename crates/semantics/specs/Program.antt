@@ -1,15 +1,16 @@
 -- The program, from the section "Program lists" of the rules document: flat lists of words, read as records of three
--- words (expressions) and of five words (nodes).
+-- words (expressions) and of five words (nodes). Request 1 adds the list of widths.
 use mathlib.Core.Bool.{Bool, true, false, cond}
 use mathlib.Core.List.{List}
 use Prim.Native.Nat.{ℕ, _+_, _*_, _/_}
 use lib.Dec.{eqb}
 use lib.ListN.{length, getD}
 
--- The two lists, V (the number of variables) and C (the number of channels).
+-- The three lists, V (the number of variables) and C (the number of channels).
 pub record Program : Type 0 where
   pub exprs : List ℕ
   pub nodes : List ℕ
+  pub widths : List ℕ
   pub variables : ℕ
   pub channels : ℕ
 

@@ -1,4 +1,4 @@
--- The papers of the section "Sample papers" that are to be proved, and three more, as one list. Each begins and then
+-- The papers of the section "Sample papers" that are to be proved, three more, and those of request 1, as one list. Each begins and then
 -- runs, through all the questions, as the calls do; `proofs/Run/SamplesPass.antt` has the theorem on the list.
 use mathlib.Core.Bool.{Bool, true, false, _&&_}
 use mathlib.Core.List.{List, [], _∷_, _++_}
@@ -58,9 +58,14 @@ expr op p q = op ∷ p ∷ q ∷ []
 abbrev pub node : ℕ → ℕ → ℕ → ℕ → ℕ → List ℕ
 node kind parent end a b = kind ∷ parent ∷ end ∷ a ∷ b ∷ []
 
--- expressions, nodes, V, C
+-- expressions, nodes, widths, V, C
+abbrev pub programOf : List ℕ → List ℕ → List ℕ → ℕ → ℕ → Program
+programOf exprs nodes widths v c =
+    record { exprs = exprs; nodes = nodes; widths = widths; variables = v; channels = c }
+
+-- expressions, nodes, V, C; every variable is 16 bits wide
 abbrev pub program : List ℕ → List ℕ → ℕ → ℕ → Program
-program exprs nodes v c = record { exprs = exprs; nodes = nodes; variables = v; channels = c }
+program exprs nodes v c = programOf exprs nodes (replicate v 16) v c
 
 -- number, cycles worked, values, marks, counts
 abbrev pub gives : ℕ → ℕ → List ℕ → List ℕ → List ℕ → Answer
@@ -134,6 +139,17 @@ unevenThreads =
     (node 1 65535 7 0 0 ++ node 2 0 6 0 0 ++ node 8 1 3 0 0 ++ node 1 1 6 0 0 ++ node 8 3 5 0 0 ++ node 8 3 6 0 0
     ++ node 8 0 7 0 0) 0 0
 
+-- WHL 1 {v0:=v0+1}, with v0 of the given widths
+abbrev pub counter : List ℕ → Program
+counter widths =
+    programOf (expr 0 1 0 ++ expr 1 0 0 ++ expr 2 1 0) (node 7 65535 2 0 0 ++ node 3 0 2 0 2) widths 1 0
+
+-- PAR{OUT c0 v1+4; IN c0 v0; v1:=v1+4}, with v0 of 1 bit and v1 of 16 bits
+abbrev pub oneBitInput : Program
+oneBitInput =
+    programOf (expr 1 1 0 ++ expr 0 4 0 ++ expr 2 0 1)
+    (node 2 65535 4 0 0 ++ node 5 0 2 0 2 ++ node 4 0 3 0 0 ++ node 3 0 4 1 2) (1 ∷ 16 ∷ []) 2 1
+
 -- ---- the list
 
 abbrev pub swapBegun : Answer
@@ -151,6 +167,19 @@ twoBegun = gives 0 0 [] (0 ∷ 0 ∷ 1 ∷ 1 ∷ []) (0 ∷ 2 ∷ 0 ∷ 0 ∷ []
 
 abbrev pub twoAgain : Answer
 twoAgain = gives 0 1 [] (0 ∷ 0 ∷ 1 ∷ 1 ∷ []) (0 ∷ 2 ∷ 0 ∷ 0 ∷ [])
+
+abbrev pub counterBegun : ℕ → Answer
+counterBegun v = gives 0 0 (v ∷ []) (0 ∷ 1 ∷ []) (0 ∷ 0 ∷ [])
+
+-- nothing is written: the lists are those that begin is lent
+abbrev pub counterRefused : ℕ → ℕ → Answer
+counterRefused q v = gives q 0 (v ∷ []) (1 ∷ 1 ∷ []) (9 ∷ 9 ∷ [])
+
+-- a counter that check, begin and run refuse
+abbrev pub refusedPaper : Program → ℕ → Paper
+refusedPaper P q =
+    let refused = counterRefused q 0 in
+    record { program = P; values = 0 ∷ []; cycles = 1; book = 1 ∷ []; check = q; begin = refused; run = refused }
 
 unfoldable pub samples : List Paper
 samples =
@@ -207,4 +236,18 @@ samples =
     ∷ paper unevenThreads [] 1 (2 ∷ 4 ∷ [])
     (gives 0 0 [] (0 ∷ 0 ∷ 1 ∷ 0 ∷ 1 ∷ 0 ∷ 0 ∷ []) (0 ∷ 2 ∷ 0 ∷ 0 ∷ 0 ∷ 0 ∷ 0 ∷ []))
     (gives 0 1 [] (0 ∷ 0 ∷ 0 ∷ 0 ∷ 0 ∷ 1 ∷ 0 ∷ []) (0 ∷ 1 ∷ 0 ∷ 0 ∷ 0 ∷ 0 ∷ 0 ∷ []))
+    -- request 1: a counter of 12 bits passes 4,095; begin is lent rubbish for marks and counts and asks 6 of no mark
+    ∷ paper (counter (12 ∷ [])) (4094 ∷ []) 1 (1 ∷ []) (counterBegun 4094) (gives 0 1 (4095 ∷ []) (0 ∷ 1 ∷ []) (0 ∷ 0 ∷ []))
+    ∷ paper (counter (12 ∷ [])) (4094 ∷ []) 3 (1 ∷ 1 ∷ 1 ∷ []) (counterBegun 4094)
+    (gives 0 3 (1 ∷ []) (0 ∷ 1 ∷ []) (0 ∷ 0 ∷ []))
+    -- an input of 1 bit keeps 1 of the 7 that is sent, and the variable of 16 bits all of it
+    ∷ paper oneBitInput (0 ∷ 3 ∷ []) 5 (1 ∷ 2 ∷ 3 ∷ [])
+    (gives 0 0 (0 ∷ 3 ∷ []) (0 ∷ 1 ∷ 1 ∷ 1 ∷ []) (3 ∷ 0 ∷ 0 ∷ 0 ∷ []))
+    (gives 0 1 (1 ∷ 7 ∷ []) (0 ∷ 0 ∷ 0 ∷ 0 ∷ []) (0 ∷ 0 ∷ 0 ∷ 0 ∷ []))
+    -- a value too wide: begin and run refuse with 6
+    ∷ paper (counter (12 ∷ [])) (4096 ∷ []) 3 (1 ∷ 1 ∷ 1 ∷ []) (counterRefused 6 4096) (counterRefused 6 4096)
+    -- a width of 0, one of 17, and two widths for one variable
+    ∷ refusedPaper (counter (0 ∷ [])) 11
+    ∷ refusedPaper (counter (17 ∷ [])) 11
+    ∷ refusedPaper (counter (16 ∷ 16 ∷ [])) 11
     ∷ []

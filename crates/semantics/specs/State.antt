@@ -7,6 +7,7 @@ use lib.ListN.{length, getD}
 use Rattle.semantics.specs.Numbers.{below, every, any, filter, member}
 use Rattle.semantics.specs.Program.{Program, nodeCount, kindAt, endAt, isLeaf, isPar}
 use Rattle.semantics.specs.Parents.{ancestors, isChild}
+use Rattle.semantics.specs.Widths.{valuesInRange}
 
 -- A value for each variable; a mark for each node, 1 where it is active; a thread count for each node.
 pub record State : Type 0 where
@@ -35,7 +36,8 @@ lengthsOk P s =
     eqb (length (s .values)) (P .variables) && eqb (length (s .marks)) (nodeCount (P .nodes))
     && eqb (length (s .counts)) (nodeCount (P .nodes))
 
--- ---- question 6: the state is well formed, which has four parts
+-- ---- question 6: the state is well formed. Of marks and counts it asks four things, and of the values that they are in
+-- range.
 
 -- First, no mark is above 1.
 unfoldable pub marksAreBits : List ℕ → Bool
@@ -71,7 +73,9 @@ countsRight nodes marks counts =
     every (λ i. eqb (getD counts i 0) (cond (isPar (kindAt nodes i)) (liveChildren nodes marks i) 0))
     (below (nodeCount nodes))
 
+unfoldable pub controlFormed : List ℕ → List ℕ → List ℕ → Bool
+controlFormed nodes marks counts =
+    marksAreBits marks && leavesMarked nodes marks && pairsMeetInPar nodes marks && countsRight nodes marks counts
+
 unfoldable pub wellFormed : Program → State → Bool
-wellFormed P s =
-    marksAreBits (s .marks) && leavesMarked (P .nodes) (s .marks) && pairsMeetInPar (P .nodes) (s .marks)
-    && countsRight (P .nodes) (s .marks) (s .counts)
+wellFormed P s = valuesInRange (P .widths) (s .values) && controlFormed (P .nodes) (s .marks) (s .counts)

@@ -1,5 +1,5 @@
 -- Laws of `firstNo`: it is 0 exactly when every question is answered yes. So an accepted program has its sizes within
--- the limits, and each expression, node and range is ok.
+-- the limits, and each expression, node, range and width is ok.
 use mathlib.Core.Path.{_≡_, refl, sym, _∙_}
 use mathlib.Core.Bool.{Bool, true, false, cond, not, _&&_, true≢false}
 use mathlib.Core.List.{List, [], _∷_, _++_}
@@ -10,7 +10,8 @@ use borrow.Author.Tests.{eqb-true, eq-eqb, leb-true, not-true}
 use Rattle.semantics.specs.Program.{Program, exprCount, nodeCount}
 use Rattle.semantics.specs.Questions.{Question, firstNo}
 use Rattle.semantics.specs.Check.{sizesOk, exprOk, nodeOk, referencesOk, checkQuestions, checkNumber}
-use Rattle.semantics.specs.Facts.{Accepted, Sized}
+use Rattle.semantics.specs.Widths.{widthAt, widthOk, widthsOk}
+use Rattle.semantics.specs.Facts.{Accepted, Sized, WidthsFit}
 use Rattle.semantics.proofs.Lists.Logic.{and-left, and-right, conjuncts}
 use Rattle.semantics.proofs.Lists.NumberLaws.{every-below}
 
@@ -68,14 +69,24 @@ sized-limits P h =
       channelsFit = leb-true _ _ cs;
     }
 
--- ---- questions 1 to 4
+-- ---- question 11
+pub widths-fit : (P : Program) → widthsOk P ≡ true → WidthsFit P
+unfolding widthsOk
+widths-fit P h = record {
+  asMany = eqb-true _ _ (and-left _ _ h);
+  each = every-below (λ v. widthOk (widthAt (P .widths) v)) (P .variables)
+      (and-right (eqb (length (P .widths)) (P .variables)) _ h);
+}
+
+-- ---- questions 1 to 4, and 11
 pub accepted : (P : Program) → checkNumber P ≡ 0 → Accepted P
 unfolding checkNumber
 accepted P h =
-    let (size, (exprs, (nodes, (ranges, _)))) = yes-all (checkQuestions P) refl h in
+    let (size, (exprs, (nodes, (ranges, (widths, _))))) = yes-all (checkQuestions P) refl h in
     record {
       sizes = sized-limits P size;
       exprsOk = every-below (exprOk P) (exprCount (P .exprs)) exprs;
       nodesOk = every-below (nodeOk (P .nodes)) (nodeCount (P .nodes)) nodes;
       rangesOk = every-below (referencesOk P) (nodeCount (P .nodes)) ranges;
+      widthsFit = widths-fit P widths;
     }

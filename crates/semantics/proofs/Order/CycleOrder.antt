@@ -14,7 +14,8 @@ use Rattle.semantics.specs.Expressions.{isTrue}
 use Rattle.semantics.specs.Questions.{firstNo}
 use Rattle.semantics.specs.Check.{checkNumber}
 use Rattle.semantics.specs.Tree.{treeOf}
-use Rattle.semantics.specs.State.{State, lengthsOk, wellFormed}
+use Rattle.semantics.specs.Widths.{valuesInRange}
+use Rattle.semantics.specs.State.{State, lengthsOk, controlFormed}
 use Rattle.semantics.specs.Walk.{leave}
 use Rattle.semantics.specs.Completion.{waits, channelsFree, targetsApart}
 use Rattle.semantics.specs.Cycle.{areActive, answered, newValues, visit, walked, cycleQuestions, cycle}
@@ -24,10 +25,11 @@ use Rattle.semantics.proofs.Lists.Logic.{conjuncts, both}
 use Rattle.semantics.proofs.Tree.TreeOfList.{Stands, accepted-tree}
 use Rattle.semantics.proofs.Walks.LeaveFrames.{accepted-leave}
 use Rattle.semantics.proofs.Tree.TreeWellFormed.{treeWellFormed}
-use Rattle.semantics.proofs.Tree.WellFormedOnTree.{wellFormed-on-tree}
+use Rattle.semantics.proofs.Tree.WellFormedOnTree.{controlFormed-on-tree}
 use Rattle.semantics.proofs.Run.CrossOut.{crossOut, active-crossOut}
 use Rattle.semantics.proofs.Order.WalksOnTree.{FormedOn, cycle-any-order, cycle-formed}
 use Rattle.semantics.proofs.Order.Stores.{newValues-any-order, newValues-length}
+use Rattle.semantics.proofs.Order.InRange.{values-in-range, control-formed, well-formed, newValues-in-range}
 
 pub fits-lengths : (P : Program) (s : State) → lengthsOk P s ≡ true → LengthsFit P s
 unfolding lengthsOk
@@ -44,10 +46,11 @@ module _ (P : Program) (accepted : checkNumber P ≡ 0) where
   abbrev tree : Stands (P .nodes) (treeOf (P .nodes)) 0 (nodeCount (P .nodes))
   tree = accepted-tree P accepted
 
-  -- in an accepted program, question 6 is well-formedness along the tree
-  pub wellFormed-accepted : (s : State) → length (s .marks) ≡ nodeCount (P .nodes)
-      → wellFormed P s ≡ treeWellFormed (s .marks) (s .counts) (treeOf (P .nodes))
-  wellFormed-accepted s l = wellFormed-on-tree P s (treeOf (P .nodes)) (tree .placed) (tree .agrees) (tree .ends) l
+  -- in an accepted program, what question 6 asks of marks and counts is well-formedness along the tree
+  formed-on-tree : (marks counts : List ℕ) → length marks ≡ nodeCount (P .nodes)
+      → controlFormed (P .nodes) marks counts ≡ treeWellFormed marks counts (treeOf (P .nodes))
+  formed-on-tree marks counts l =
+      controlFormed-on-tree (P .nodes) marks counts (treeOf (P .nodes)) (tree .placed) (tree .agrees) (tree .ends) l
 
   abbrev Formed : List ℕ → List ℕ → Type 0
   Formed marks counts = FormedOn (treeOf (P .nodes)) (nodeCount (P .nodes)) marks counts
@@ -58,14 +61,15 @@ module _ (P : Program) (accepted : checkNumber P ≡ 0) where
       record {
         marksLength = f .marks;
         countsLength = f .counts;
-        wellFormed = sym (wellFormed-accepted s (f .marks)) ∙ r .formed;
+        wellFormed = sym (formed-on-tree (s .marks) (s .counts) (f .marks)) ∙ control-formed P s (r .formed);
       }
 
-  pub formed-ready : (s : State) → length (s .values) ≡ P .variables → Formed (s .marks) (s .counts) → Ready P s
-  formed-ready s v f =
+  pub formed-ready : (s : State) → length (s .values) ≡ P .variables → valuesInRange (P .widths) (s .values) ≡ true
+      → Formed (s .marks) (s .counts) → Ready P s
+  formed-ready s v in-range f =
       record {
         fit = lengths-fit P s (record { values = v; marks = f .marksLength; counts = f .countsLength });
-        formed = wellFormed-accepted s (f .marksLength) ∙ f .wellFormed;
+        formed = well-formed P s in-range (formed-on-tree (s .marks) (s .counts) (f .marksLength) ∙ f .wellFormed);
       }
 
   module _ (s : State) (ready : Ready P s) where
@@ -119,6 +123,7 @@ module _ (P : Program) (accepted : checkNumber P ≡ 0) where
     leaves-ready s′ es h e =
         pick (number (newValues P s es) es) (leaves (newValues P s es) es) e
         (formed-ready _ (newValues-length P s es ∙ fits-lengths P s (ready .fit) .values)
+        (newValues-in-range P s es (values-in-range P s (ready .formed)))
         (walked-formed (newValues P s es) es h))
       where
         pick : (q : ℕ) (t : State) → answered q t ≡ advancesTo s′ → Ready P t → Ready P s′

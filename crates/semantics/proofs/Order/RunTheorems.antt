@@ -1,7 +1,7 @@
 -- What a reader of the order rule will want besides, each about the answers of begin and run. Each puts laws of the
 -- lower files together; no new argument is made here.
 use mathlib.Core.Path.{_≡_, refl, sym, ap, _∙_}
-use mathlib.Core.Bool.{cond, not}
+use mathlib.Core.Bool.{true, cond, not}
 use mathlib.Core.List.{List, [], _∷_, _++_}
 use mathlib.Core.Logic.{_≢_, inl, inr}
 use mathlib.Core.Option.{none, some}
@@ -12,6 +12,7 @@ use borrow.Author.Tests.{eqb-true}
 use Rattle.semantics.specs.Program.{Program, nodeCount}
 use Rattle.semantics.specs.Questions.{ask, firstNo}
 use Rattle.semantics.specs.Check.{checkQuestions, checkNumber}
+use Rattle.semantics.specs.Widths.{valuesInRange}
 use Rattle.semantics.specs.State.{State, lengthsOk}
 use Rattle.semantics.specs.Tree.{treeOf}
 use Rattle.semantics.specs.Expressions.{isTrue}
@@ -33,11 +34,12 @@ use Rattle.semantics.proofs.Order.OrderRule.{answer-of-run}
 
 -- entering node 0 leaves a well-formed state, whether or not a zero-time loop was met
 entered-ready : (P : Program) → checkNumber P ≡ 0 → (values : List ℕ) → length values ≡ P .variables
+    → valuesInRange (P .widths) values ≡ true
     → (let w = rootWalk P values in Ready P (record { values = values; marks = w .marks; counts = w .counts }))
 unfolding rootWalk
-entered-ready P accepted values l =
+entered-ready P accepted values l in-range =
     let tree = accepted-tree P accepted in
-    formed-ready P accepted _ l
+    formed-ready P accepted _ l in-range
     (begin-formed (treeOf (P .nodes)) (nodeCount (P .nodes)) (tree .placed) (tree .ends) (isTrue P values))
 
 -- an answer with number 0 is that of the state that was written
@@ -50,11 +52,12 @@ pub begun-ready : (P : Program) (s : State) → beginAnswer P s .number ≡ 0 �
 unfolding beginAnswer checkNumber
 begun-ready P s h =
     let w = rootWalk P (s .values) in
-    let questions = checkQuestions P ++ ask 5 (lengthsOk P s) ∷ ask 10 (not (w .looped)) ∷ [] in
+    let inRange = valuesInRange (P .widths) (s .values) in
+    let questions = checkQuestions P ++ ask 5 (lengthsOk P s) ∷ ask 6 inRange ∷ ask 10 (not (w .looped)) ∷ [] in
     let zero-number = zero-answered (firstNo questions) s _ h in
-    let (sizes, (exprs, (nodes, (ranges, (lengths, _))))) = yes-all questions refl zero-number in
-    let accepted = all-yes (checkQuestions P) (sizes, (exprs, (nodes, (ranges, tt)))) in
-    rw zero-number (entered-ready P accepted (s .values) (fits-lengths P s lengths .values))
+    let (sizes, (exprs, (nodes, (ranges, (widths, (lengths, (in-range, _))))))) = yes-all questions refl zero-number in
+    let accepted = all-yes (checkQuestions P) (sizes, (exprs, (nodes, (ranges, (widths, tt))))) in
+    rw zero-number (entered-ready P accepted (s .values) (fits-lengths P s lengths .values) in-range)
 
 -- ---- run, on an accepted program and a state that questions 5 and 6 let by
 

@@ -13,6 +13,7 @@ use lib.Seq.{set-comm, set-out}
 use borrow.Author.Tests.{leb-true, eq-eqb}
 use Rattle.semantics.specs.Numbers.{below, filter}
 use Rattle.semantics.specs.Program.{Program}
+use Rattle.semantics.specs.Widths.{truncated}
 use Rattle.semantics.specs.Expressions.{exprValues}
 use Rattle.semantics.specs.State.{State, marked, active}
 use Rattle.semantics.specs.Completion.{storeValue, stores, target, source, targetsApart, store}
@@ -24,20 +25,24 @@ use Rattle.semantics.proofs.Run.CrossOut.{cross-mark, active-crossOut, 
 
 -- ---- one store
 
-put-length : (table values : List ℕ) (v : ℕ) (e : Option ℕ) → length (storeValue table values v e) ≡ length values
-put-length table values v none = refl
-put-length table values v (some e) = length-set values v (getD table e 0)
+put-length : (widths table values : List ℕ) (v : ℕ) (e : Option ℕ)
+    → length (storeValue widths table values v e) ≡ length values
+put-length widths table values v none = refl
+put-length widths table values v (some e) = length-set values v (truncated widths v (getD table e 0))
 
 -- a store past the list's end is no store
-put-out : (table values : List ℕ) (v : ℕ) (e : Option ℕ) → length values ≤ v → storeValue table values v e ≡ values
-put-out table values v none l = refl
-put-out table values v (some e) l = set-out values v (getD table e 0) l
+put-out : (widths table values : List ℕ) (v : ℕ) (e : Option ℕ) → length values ≤ v
+    → storeValue widths table values v e ≡ values
+put-out widths table values v none l = refl
+put-out widths table values v (some e) l = set-out values v (truncated widths v (getD table e 0)) l
 
-put-comm : (table values : List ℕ) (v w : ℕ) (e f : Option ℕ) → v ≢ w
-    → storeValue table (storeValue table values v e) w f ≡ storeValue table (storeValue table values w f) v e
-put-comm table values v w none f n = refl
-put-comm table values v w (some e) none n = refl
-put-comm table values v w (some e) (some f) n = set-comm values v w (getD table e 0) (getD table f 0) n
+put-comm : (widths table values : List ℕ) (v w : ℕ) (e f : Option ℕ) → v ≢ w
+    → storeValue widths table (storeValue widths table values v e) w f
+    ≡ storeValue widths table (storeValue widths table values w f) v e
+put-comm widths table values v w none f n = refl
+put-comm widths table values v w (some e) none n = refl
+put-comm widths table values v w (some e) (some f) n =
+    set-comm values v w (truncated widths v (getD table e 0)) (truncated widths w (getD table f 0)) n
 
 -- ---- the stores of a cycle
 
@@ -77,9 +82,10 @@ module _ (P : Program) (marks : List ℕ) where
     unfolding store
     store-length values i = pick (stores P marks i)
       where
-        pick : (b : Bool) → length (cond b (storeValue table values (target P marks i) (source P marks i)) values)
+        pick : (b : Bool)
+            → length (cond b (storeValue (P .widths) table values (target P marks i) (source P marks i)) values)
             ≡ length values
-        pick true = put-length table values (target P marks i) (source P marks i)
+        pick true = put-length (P .widths) table values (target P marks i) (source P marks i)
         pick false = refl
 
     pub stores-length : (values entries : List ℕ) → length (foldl (store P marks table) values entries) ≡ length values
@@ -94,21 +100,21 @@ module _ (P : Program) (marks : List ℕ) where
       store-commutes values i j l n mi mj = pick (stores P marks i) (stores P marks j) refl refl
         where
           put : ℕ → List ℕ → List ℕ
-          put k old = storeValue table old (target P marks k) (source P marks k)
+          put k old = storeValue (P .widths) table old (target P marks k) (source P marks k)
 
           -- a store past the list's end is no store
           past : P .variables ≤ target P marks i → (old : List ℕ) → length old ≡ P .variables → put i old ≡ old
-          past u old e = put-out table old (target P marks i) (source P marks i) (omega arith)
+          past u old e = put-out (P .widths) table old (target P marks i) (source P marks i) (omega arith)
 
           pick : (b c : Bool) → stores P marks i ≡ b → stores P marks j ≡ c
               → cond c (put j (cond b (put i values) values)) (cond b (put i values) values)
               ≡ cond b (put i (cond c (put j values) values)) (cond c (put j values) values)
           pick true true si sj =
               elim (lt-or-le (target P marks i) (P .variables)) [
-                | inl u ↦ put-comm table values (target P marks i) (target P marks j) (source P marks i) (source P marks j)
-                    (targets-differ apart i j n mi mj si sj u)
+                | inl u ↦ put-comm (P .widths) table values (target P marks i) (target P marks j) (source P marks i)
+                    (source P marks j) (targets-differ apart i j n mi mj si sj u)
                 | inr u ↦
-                    let same = put-length table values (target P marks j) (source P marks j) in
+                    let same = put-length (P .widths) table values (target P marks j) (source P marks j) in
                     ap (put j) (past u values l) ∙ sym (past u (put j values) (same ∙ l))
               ]
           pick true false si sj = refl

@@ -3,13 +3,14 @@ use mathlib.Core.Path.{_≡_, refl}
 use mathlib.Core.Bool.{true}
 use Rattle.semantics.specs.Numbers.{upFrom, every, any, filter, distinct}
 use Rattle.semantics.specs.Program.{opOf, kindOf}
+use Rattle.semantics.specs.Widths.{widthOk, widthsOk, valuesInRange}
 use Rattle.semantics.specs.Expressions.{apply, valueOf, firstValues}
 use Rattle.semantics.specs.Parents.{parentBelow, ancestorsBelow}
 use Rattle.semantics.specs.Check.{sizesOk, exprWordsOk, kindOk, endWithin, endOk, parentOk, childrenOk, unusedOk}
 use Rattle.semantics.specs.Check.{nodeOk, referenceWordsOk, checkNumber}
 use Rattle.semantics.specs.Tree.{startBelow, startFrom, forest, statements, treeOf}
 use Rattle.semantics.specs.State.{lengthsOk, marksAreBits, leavesMarked, pairsMeetInPar, holdsMark, liveChildren}
-use Rattle.semantics.specs.State.{countsRight, wellFormed}
+use Rattle.semantics.specs.State.{countsRight, controlFormed, wellFormed}
 use Rattle.semantics.specs.Walk.{enter, leaveChild, leaveTo}
 use Rattle.semantics.specs.Completion.{waits, channelsFree, targetsApart, store}
 use Rattle.semantics.specs.Cycle.{areActive, newValues, visit, walked, cycle}
@@ -21,6 +22,6 @@ pub samples-pass : allPass samples ≡ true
 unfolding samples upFrom every any filter distinct opOf kindOf apply valueOf firstValues parentBelow ancestorsBelow
     sizesOk exprWordsOk kindOk endWithin endOk parentOk childrenOk unusedOk nodeOk referenceWordsOk checkNumber startBelow
     startFrom forest statements treeOf lengthsOk marksAreBits leavesMarked pairsMeetInPar holdsMark liveChildren
-    countsRight wellFormed enter leaveChild leaveTo waits channelsFree targetsApart store areActive newValues visit
+    countsRight widthOk widthsOk valuesInRange controlFormed wellFormed enter leaveChild leaveTo waits channelsFree targetsApart store areActive newValues visit
     walked cycle run rootWalk beginAnswer runAnswer
 samples-pass = refl

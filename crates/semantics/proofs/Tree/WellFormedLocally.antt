@@ -11,10 +11,10 @@ use lib.Dec.{leb}
 use lib.ListN.{length, getD}
 use borrow.Author.Tests.{leb-true, le-leb}
 use Rattle.semantics.specs.Numbers.{below, every}
-use Rattle.semantics.specs.Program.{Program, Kind, nodeCount, kindAt, isLeaf, isPar}
+use Rattle.semantics.specs.Program.{Kind, nodeCount, kindAt, isLeaf, isPar}
 use Rattle.semantics.specs.Program.Kind.{SEQ, PAR, IF, WHL, LEAF, UNKNOWN}
 use Rattle.semantics.specs.Check.{kindOk}
-use Rattle.semantics.specs.State.{State, marked, commonAncestors, firstIsPar, liveChildren, wellFormed}
+use Rattle.semantics.specs.State.{marked, commonAncestors, firstIsPar, liveChildren, controlFormed}
 use Rattle.semantics.specs.Facts.{NodesOk, liveChild, locallyOk, nodeWellFormed}
 use Rattle.semantics.proofs.Lists.Logic.{and-left, and-right, both, or-right, or-cases, bool-eq, true-or-false}
 use Rattle.semantics.proofs.Lists.Logic.{lt-or-le}
@@ -22,7 +22,7 @@ use Rattle.semantics.proofs.Lists.NumberLaws.{every-below, all-below, c
 use Rattle.semantics.proofs.Lists.ParentLaws.{is-parent}
 use Rattle.semantics.proofs.Tree.NodeLaws.{facts}
 use Rattle.semantics.proofs.Tree.TreeWellFormed.{plain}
-use Rattle.semantics.proofs.Tree.WellFormedOnTree.{NodeRight, WellFormedIn, leaf-right, plain-right, wellFormed-in}
+use Rattle.semantics.proofs.Tree.WellFormedOnTree.{NodeRight, WellFormedIn, leaf-right, plain-right, controlFormed-in}
 use Rattle.semantics.proofs.Tree.Meetings.{Meeting, over-inside, meeting, in-order, meets}
 use Rattle.semantics.proofs.Tree.LiveChildren.{marked-inside, over-live, live-over}
 
@@ -145,16 +145,14 @@ module _ (nodes marks counts : List ℕ) (ok : NodesOk nodes) (same : length mar
         ];
       }
 
--- question 6 is answered yes exactly when each node is right by itself
-pub wellFormed-locally : (P : Program) (s : State) → NodesOk (P .nodes) → length (s .marks) ≡ nodeCount (P .nodes)
-    → wellFormed P s ≡ every (locallyOk (P .nodes) (s .marks) (s .counts)) (below (nodeCount (P .nodes)))
-wellFormed-locally P s ok same =
-    let worded = wellFormed-in P s same in
+-- what question 6 asks of marks and counts is answered yes exactly when each node is right by itself
+pub controlFormed-locally : (nodes marks counts : List ℕ) → NodesOk nodes → length marks ≡ nodeCount nodes
+    → controlFormed nodes marks counts ≡ every (locallyOk nodes marks counts) (below (nodeCount nodes))
+controlFormed-locally nodes marks counts ok same =
+    let worded = controlFormed-in nodes marks counts same in
     bool-eq _ _
     (λ h.
-    all-below (locallyOk (P .nodes) (s .marks) (s .counts)) (nodeCount (P .nodes))
-    (each-right (P .nodes) (s .marks) (s .counts) ok same (worded .1 h)))
+    all-below (locallyOk nodes marks counts) (nodeCount nodes) (each-right nodes marks counts ok same (worded .1 h)))
     (λ h.
     worded .0
-    (all-right (P .nodes) (s .marks) (s .counts) ok same
-    (every-below (locallyOk (P .nodes) (s .marks) (s .counts)) (nodeCount (P .nodes)) h)))
+    (all-right nodes marks counts ok same (every-below (locallyOk nodes marks counts) (nodeCount nodes) h)))

@@ -12,13 +12,13 @@ use lib.Dec.{eqb, leb}
 use lib.ListN.{length, getD}
 use borrow.Author.Tests.{eqb-true, eqb-false, eq-eqb, ne-eqb, leb-true, le-leb}
 use Rattle.semantics.specs.Numbers.{every}
-use Rattle.semantics.specs.Program.{Program, Kind, nodeCount, kindAt, endAt, isLeaf, isPar}
+use Rattle.semantics.specs.Program.{Kind, nodeCount, kindAt, endAt, isLeaf, isPar}
 use Rattle.semantics.specs.Program.Kind.{SEQ, PAR, IF, WHL, LEAF, UNKNOWN}
 use Rattle.semantics.specs.Tree.{Stmt, Stmts}
 use Rattle.semantics.specs.Tree.Stmt.{leaf, seq, par, ife, whl}
 use Rattle.semantics.specs.Tree.Stmts.{nil, cons}
-use Rattle.semantics.specs.State.{State, marked, active, commonAncestors, firstIsPar, liveChildren}
-use Rattle.semantics.specs.State.{marksAreBits, leavesMarked, pairsMeetInPar, countsRight, wellFormed}
+use Rattle.semantics.specs.State.{marked, active, commonAncestors, firstIsPar, liveChildren}
+use Rattle.semantics.specs.State.{marksAreBits, leavesMarked, pairsMeetInPar, countsRight, controlFormed}
 use Rattle.semantics.proofs.Lists.Logic.{and-left, and-right, both, bool-eq, true-or-false, lt-or-le}
 use Rattle.semantics.proofs.Lists.NumberLaws.{every-at, every-all, every-elements}
 use Rattle.semantics.proofs.Tree.Positions.{endOf, endsOf, endOf-gt, endsOf-ge, Placed, PlacedIn}
@@ -336,24 +336,24 @@ module _ (nodes marks counts : List ℕ) where
                 (every-active marks (meet i) .0 (every-active marks meet-all .0 meet-each i m) j m′);
           }
 
--- question 6 is answered yes exactly when all nodes are right and any two marked ones meet in a PAR
-pub wellFormed-in : (P : Program) (s : State) → length (s .marks) ≡ nodeCount (P .nodes)
-    → WellFormedIn (P .nodes) (s .marks) (s .counts) 0 (nodeCount (P .nodes)) ↔ (wellFormed P s ≡ true)
-unfolding wellFormed
-wellFormed-in P s same =
-    let worded = list-right (P .nodes) (s .marks) (s .counts) same in
+-- what question 6 asks of marks and counts is answered yes exactly when all nodes are right and any two marked ones meet
+-- in a PAR
+pub controlFormed-in : (nodes marks counts : List ℕ) → length marks ≡ nodeCount nodes
+    → WellFormedIn nodes marks counts 0 (nodeCount nodes) ↔ (controlFormed nodes marks counts ≡ true)
+unfolding controlFormed
+controlFormed-in nodes marks counts same =
+    let worded = list-right nodes marks counts same in
     (λ w. all-four _ _ _ _ .1 (worded .0 w), λ h. worded .1 (all-four _ _ _ _ .0 h))
 
 -- and exactly when the state is well formed along the tree
-pub wellFormed-on-tree : (P : Program) (s : State) (t : Stmt) → Placed t 0 → Agrees (P .nodes) t 0
-    → endOf t 0 ≡ nodeCount (P .nodes) → length (s .marks) ≡ nodeCount (P .nodes)
-    → wellFormed P s ≡ treeWellFormed (s .marks) (s .counts) t
-wellFormed-on-tree P s t p a e same =
+pub controlFormed-on-tree : (nodes marks counts : List ℕ) (t : Stmt) → Placed t 0 → Agrees nodes t 0
+    → endOf t 0 ≡ nodeCount nodes → length marks ≡ nodeCount nodes
+    → controlFormed nodes marks counts ≡ treeWellFormed marks counts t
+controlFormed-on-tree nodes marks counts t p a e same =
     bool-eq _ _ (λ h. on-tree .0 (on-list .1 h)) (λ h. on-list .0 (on-tree .1 h))
   where
-    on-tree : WellFormedIn (P .nodes) (s .marks) (s .counts) 0 (nodeCount (P .nodes))
-        ↔ (treeWellFormed (s .marks) (s .counts) t ≡ true)
-    on-tree = rw e at (tree-right (P .nodes) (s .marks) (s .counts) t 0 a p (omega arith))
+    on-tree : WellFormedIn nodes marks counts 0 (nodeCount nodes) ↔ (treeWellFormed marks counts t ≡ true)
+    on-tree = rw e at (tree-right nodes marks counts t 0 a p (omega arith))
 
-    on-list : WellFormedIn (P .nodes) (s .marks) (s .counts) 0 (nodeCount (P .nodes)) ↔ (wellFormed P s ≡ true)
-    on-list = wellFormed-in P s same
+    on-list : WellFormedIn nodes marks counts 0 (nodeCount nodes) ↔ (controlFormed nodes marks counts ≡ true)
+    on-list = controlFormed-in nodes marks counts same
