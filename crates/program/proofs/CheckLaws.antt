@@ -6,6 +6,7 @@ use Prim.Native.Nat.{ℕ, _<_}
 use borrow.Author.Tests.{lt-ltb}
 use Rattle.semantics.specs.Numbers.{below, every}
 use Rattle.semantics.specs.Program.{Program, exprCount, nodeCount}
+use Rattle.semantics.specs.Widths.{widthsOk}
 use Rattle.semantics.specs.Check.{sizesOk, exprOk, nodeOk, referencesOk, checkNumber, isFaultItem}
 use Rattle.program.specs.Search.{FirstFault}
 use Rattle.program.specs.Answer.{CheckAnswer}
@@ -47,6 +48,11 @@ module _ (P : Program) where
               faultItem = rw (lt-ltb node (nodeCount (P .nodes)) l, f .fault l);
             }
 
-        pub answer-0 : every (referencesOk P) (below (nodeCount (P .nodes))) ≡ true → CheckAnswer P 0 0
-        unfolding checkNumber isFaultItem
-        answer-0 references = record { rightNumber = rw (s, exprs, nodes, references); faultItem = refl }
+        module _ (references : every (referencesOk P) (below (nodeCount (P .nodes))) ≡ true) where
+          pub answer-11 : widthsOk P ≡ false → CheckAnswer P 11 0
+          unfolding checkNumber isFaultItem
+          answer-11 widths = record { rightNumber = rw (s, exprs, nodes, references, widths); faultItem = refl }
+
+          pub answer-0 : widthsOk P ≡ true → CheckAnswer P 0 0
+          unfolding checkNumber isFaultItem
+          answer-0 widths = record { rightNumber = rw (s, exprs, nodes, references, widths); faultItem = refl }

@@ -4,7 +4,8 @@ use mathlib.Core.Bool.{Bool, true, false, not, true≢false}
 use mathlib.Core.Logic.{inl, inr}
 use Prim.Native.Nat.{ℕ, _+_, _≤_, _<_}
 use native.Mathlib.Omega.{arith}
-use borrow.Author.Tests.{not-true, not-false}
+use lib.Dec.{eqb}
+use borrow.Author.Tests.{not-true, not-false, eq-eqb, ne-eqb}
 use Rattle.semantics.specs.Numbers.{below, every}
 use Rattle.semantics.proofs.Lists.Logic.{lt-or-le, true-or-false}
 use Rattle.semantics.proofs.Lists.NumberLaws.{every-below, all-below}
@@ -38,3 +39,10 @@ module _ (ok : ℕ → Bool) where
       let w = f .within in
       let e : i ≡ count = omega arith in
       subst (λ (x : ℕ). every ok (below x) ≡ true) e (f .passed)
+
+  -- the search comes to its end exactly when the question is answered yes
+  pub search-answer : (count i : ℕ) → FirstFault ok count i → eqb i count ≡ every ok (below count)
+  search-answer count i f = elim (lt-or-le i count) [
+    | inl v ↦ ne-eqb i count (λ e. omega arith) ∙ sym (found count i f v)
+    | inr v ↦ let w = f .within in eq-eqb i count (omega arith) ∙ sym (not-found count i f v)
+  ]

@@ -6,9 +6,10 @@ use Prim.Native.Nat.{ℕ}
 use Rattle.semantics.specs.Program.{Program}
 use Rattle.semantics.specs.Check.{checkNumber, isFaultItem}
 
--- The program that two lists and two numbers hold.
-abbrev pub programOf : List ℕ → List ℕ → ℕ → ℕ → Program
-programOf exprs nodes vars chans = record { exprs = exprs; nodes = nodes; variables = vars; channels = chans }
+-- The program that three lists and two numbers hold.
+abbrev pub programOf : List ℕ → List ℕ → List ℕ → ℕ → ℕ → Program
+programOf exprs nodes widths vars chans =
+    record { exprs = exprs; nodes = nodes; widths = widths; variables = vars; channels = chans }
 
 pub record CheckAnswer (P : Program) (number item : ℕ) : Type 0 where
   pub rightNumber : number ≡ checkNumber P

@@ -29,7 +29,8 @@ fn expr_words_ok(vars: u16, i: u16, op: u16, p: u16, q: u16) -> bool
 }
 
 fn expr_ok(exprs: &[u16], vars: u16, i: u16) -> bool
-    ensures { λ r. ⌜ ((nodes : List ℕ) (chans : ℕ) → r ≡ exprOk (programOf (now (exprs .entry)) nodes vars chans) i) ⌝ }
+    ensures { λ r. ⌜ ((nodes widths : List ℕ) (chans : ℕ) →
+        r ≡ exprOk (programOf (now (exprs .entry)) nodes widths vars chans) i) ⌝ }
 {
     expr_words_ok(
         vars,
@@ -42,8 +43,8 @@ fn expr_ok(exprs: &[u16], vars: u16, i: u16) -> bool
 
 // The first of the expressions below count that has a fault, or count.
 pub fn first_faulty_expr(exprs: &[u16], vars: u16, count: u16) -> u16
-    ensures { λ r. ⌜ ((nodes : List ℕ) (chans : ℕ) →
-        FirstFault (exprOk (programOf (now (exprs .entry)) nodes vars chans)) count r) ⌝ }
+    ensures { λ r. ⌜ ((nodes widths : List ℕ) (chans : ℕ) →
+        FirstFault (exprOk (programOf (now (exprs .entry)) nodes widths vars chans)) count r) ⌝ }
 {
     let mut i: u16 = 0;
     while i < count {

@@ -11,6 +11,7 @@ mod ranges; // question 4
 mod sizes; // question 1
 mod tree; // question 3 at all nodes
 mod values; // what an op gives
+mod widths; // question 11
 pub mod words; // the words of the records
 
 use expressions::first_faulty_expr;
@@ -18,6 +19,7 @@ use ranges::first_out_of_range;
 use sizes::sizes_ok;
 use tree::first_faulty_node;
 pub use values::apply_op;
+use widths::widths_ok;
 ghost use Rattle.program.specs.Answer.{programOf, CheckAnswer};
 
 // The number of a variable. It is a type of its own, as a channel's is, so that neither is taken for the other.
@@ -32,9 +34,9 @@ pub struct Checked {
     pub item: u16,
 }
 
-// Asks questions 1 to 4, in time linear in the lengths of the lists.
-pub fn check(exprs: &[u16], nodes: &[u16], vars: u16, chans: u16) -> Checked
-    ensures { λ r. ⌜ CheckAnswer (programOf (now (exprs .entry)) (now (nodes .entry)) vars chans)
+// Asks questions 1 to 4 and 11, in time linear in the lengths of the lists.
+pub fn check(exprs: &[u16], nodes: &[u16], widths: &[u16], vars: u16, chans: u16) -> Checked
+    ensures { λ r. ⌜ CheckAnswer (programOf (now (exprs .entry)) (now (nodes .entry)) (now (widths .entry)) vars chans)
         (r .number) (r .item) ⌝ }
 {
     if !sizes_ok(exprs, nodes, vars, chans) {
@@ -61,6 +63,12 @@ pub fn check(exprs: &[u16], nodes: &[u16], vars: u16, chans: u16) -> Checked
         return Checked {
             number: 4,
             item: name,
+        };
+    }
+    if !widths_ok(widths, vars) {
+        return Checked {
+            number: 11,
+            item: 0,
         };
     }
     Checked { number: 0, item: 0 }

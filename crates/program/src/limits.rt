@@ -7,6 +7,9 @@ pub const VARS_MAX: u16 = 256;
 
 pub const CHANS_MAX: u16 = 256;
 
+// The bits of the widest variable.
+pub const WIDTH_MAX: u16 = 16;
+
 // A node and all above it.
 pub const DEPTH_MAX: u16 = 32;
 

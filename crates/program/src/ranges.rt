@@ -20,8 +20,8 @@ ghost use Rattle.program.specs.Answer.{programOf};
 ghost use Rattle.program.specs.Search.{FirstFault};
 
 fn reference_words_ok(exprs: &[u16], vars: u16, chans: u16, kind: u16, a: u16, b: u16) -> bool
-    ensures { λ r. ⌜ ((nodes : List ℕ) →
-        r ≡ referenceWordsOk (programOf (now (exprs .entry)) nodes vars chans) (kindOf kind) a b) ⌝ }
+    ensures { λ r. ⌜ ((nodes widths : List ℕ) →
+        r ≡ referenceWordsOk (programOf (now (exprs .entry)) nodes widths vars chans) (kindOf kind) a b) ⌝ }
 {
     match kind {
         ASG => has_var(VarId(a), vars) & has_expr(b, exprs),
@@ -33,7 +33,8 @@ fn reference_words_ok(exprs: &[u16], vars: u16, chans: u16, kind: u16, a: u16, b
 }
 
 fn references_ok(exprs: &[u16], nodes: &[u16], vars: u16, chans: u16, i: u16) -> bool
-    ensures { λ r. ⌜ r ≡ referencesOk (programOf (now (exprs .entry)) (now (nodes .entry)) vars chans) i ⌝ }
+    ensures { λ r. ⌜ ((widths : List ℕ) →
+        r ≡ referencesOk (programOf (now (exprs .entry)) (now (nodes .entry)) widths vars chans) i) ⌝ }
 {
     reference_words_ok(
         exprs,
@@ -47,7 +48,8 @@ fn references_ok(exprs: &[u16], nodes: &[u16], vars: u16, chans: u16, i: u16) ->
 
 // The first of the nodes below count that names what the program does not have, or count.
 pub fn first_out_of_range(exprs: &[u16], nodes: &[u16], vars: u16, chans: u16, count: u16) -> u16
-    ensures { λ r. ⌜ FirstFault (referencesOk (programOf (now (exprs .entry)) (now (nodes .entry)) vars chans)) count r ⌝ }
+    ensures { λ r. ⌜ ((widths : List ℕ) →
+        FirstFault (referencesOk (programOf (now (exprs .entry)) (now (nodes .entry)) widths vars chans)) count r) ⌝ }
 {
     let mut i: u16 = 0;
     while i < count {

@@ -1,8 +1,10 @@
-// The words of the records. A word past the end of a list reads as 0, so that no reader asks anything of its caller.
+// The words of the records, and the widths. A word past the end of a list reads as 0, so that no reader asks anything of its caller.
+use super::VarId;
 ghost use mathlib.Core.Path.{_≡_};
 ghost use Prim.Native.Nat.{_+_, _*_};
 ghost use lib.ListN.{getD};
 ghost use Rattle.semantics.specs.Program.{pAt, qAt, parentAt, endAt, aAt, bAt};
+ghost use Rattle.semantics.specs.Widths.{widthAt};
 
 pub fn word_at(list: &[u16], at: usize) -> u16
     ensures { λ r. ⌜ r ≡ getD (now (list .entry)) at 0 ⌝ }
@@ -60,4 +62,12 @@ pub fn b_word(nodes: &[u16], i: u16) -> u16
     ensures { λ r. ⌜ r ≡ bAt (now (nodes .entry)) i ⌝ }
 {
     word_at(nodes, 5 * (i as usize) + 4)
+}
+
+// ---- the widths
+
+pub fn width_word(widths: &[u16], v: VarId) -> u16
+    ensures { λ r. ⌜ r ≡ widthAt (now (widths .entry)) (v .0) ⌝ }
+{
+    word_at(widths, v.0 as usize)
 }

@@ -6,29 +6,30 @@ use borrow.Author.Needs.{needs}
 use borrow.Author.Tests.{not-true, not-false}
 use Rattle.semantics.specs.Numbers.{below, every}
 use Rattle.semantics.specs.Program.{Program, exprCount, nodeCount}
-use Rattle.semantics.specs.Check.{sizesOk, exprOk, nodeOk}
+use Rattle.semantics.specs.Check.{sizesOk, exprOk, nodeOk, referencesOk}
 use Rattle.semantics.proofs.Lists.QuestionLaws.{sized-limits}
 use Rattle.program.specs.Answer.{programOf}
 use Rattle.program.specs.Search.{FirstFault}
-use Rattle.program.proofs.CheckLaws.{answer-1, answer-2, answer-3, answer-4, answer-0}
+use Rattle.program.proofs.CheckLaws.{answer-1, answer-2, answer-3, answer-4, answer-11, answer-0}
 use Rattle.program.proofs.SearchLaws.{not-found}
 use Rattle.program.proofs.check.Statement.{statement}
 use Rattle.program.proofs.check.Tie as tie
 
 abbrev start : tie.After-sizes-ok → tie.Start
-start c = c .before .before .before
+start c = c .before .before .before .before
 
 -- the program that is checked
 abbrev program : tie.After-sizes-ok → Program
-program c = let x = start c .args in programOf (x .exprs .now) (x .nodes .now) (x .vars) (x .chans)
+program c = let x = start c .args in programOf (x .exprs .now) (x .nodes .now) (x .widths .now) (x .vars) (x .chans)
 
 returns : tie.Need-returns
 returns c =
-    answer-1 (program (c .before)) (sym (c .before .sizes-ok .ensures) ∙ not-true _ (c .if1 .taken))
+    let widths = start (c .before) .args .widths .now in
+    answer-1 (program (c .before)) (sym (c .before .sizes-ok .ensures widths) ∙ not-true _ (c .if1 .taken))
 
 -- ---- question 1 is answered yes
 sizes : (c : tie.Else1) → sizesOk (program (c .before)) ≡ true
-sizes c = sym (c .before .sizes-ok .ensures) ∙ not-false _ (c .if1 .left)
+sizes c = sym (c .before .sizes-ok .ensures (start (c .before) .args .widths .now)) ∙ not-false _ (c .if1 .left)
 
 cast-expr-count : tie.Need-cast-expr-count
 cast-expr-count c = omega (arith, sized-limits (program (c .before)) (sizes c) .exprsFit)
@@ -41,7 +42,7 @@ exprs-searched : (c : tie.After-first-faulty-expr)
     → let P = program (c .before .before) in
     FirstFault (exprOk P) (exprCount (P .exprs)) (c .first-faulty-expr .result)
 exprs-searched c =
-    let x = start (c .before .before) .args in c .first-faulty-expr .ensures (x .nodes .now) (x .chans)
+    let x = start (c .before .before) .args in c .first-faulty-expr .ensures (x .nodes .now) (x .widths .now) (x .chans)
 
 returns-2 : tie.Need-returns-2
 returns-2 c =
@@ -70,21 +71,46 @@ nodes : (c : tie.Else3)
     every (nodeOk (P .nodes)) (below (nodeCount (P .nodes))) ≡ true
 nodes c = not-found _ _ _ (c .before .first-faulty-node .ensures) (c .if3 .left)
 
+-- ---- the names are searched
+names-searched : (c : tie.After-first-out-of-range)
+    → let P = program (c .before .before .before .before .before .before) in
+    FirstFault (referencesOk P) (nodeCount (P .nodes)) (c .first-out-of-range .result)
+names-searched c =
+    let x = start (c .before .before .before .before .before .before) .args in
+    c .first-out-of-range .ensures (x .widths .now)
+
 returns-4 : tie.Need-returns-4
 returns-4 c =
     let n = c .before .before in
     let e = n .before .before in
     let b = e .before .before in
-    answer-4 (program (b .before)) (sizes b) (exprs e) (nodes n) _ (c .before .first-out-of-range .ensures)
-    (c .if4 .taken)
+    answer-4 (program (b .before)) (sizes b) (exprs e) (nodes n) _ (names-searched (c .before)) (c .if4 .taken)
+
+-- ---- question 4 is answered yes
+references : (c : tie.Else4)
+    → let P = program (c .before .before .before .before .before .before .before) in
+    every (referencesOk P) (below (nodeCount (P .nodes))) ≡ true
+references c = not-found _ _ _ (names-searched (c .before)) (c .if4 .left)
 
 returns-5 : tie.Need-returns-5
 returns-5 c =
-    let n = c .before .before in
+    let r = c .before .before in
+    let n = r .before .before in
     let e = n .before .before in
     let b = e .before .before in
-    let references = not-found _ _ _ (c .before .first-out-of-range .ensures) (c .if4 .left) in
-    answer-0 (program (b .before)) (sizes b) (exprs e) (nodes n) references
+    let x = start (b .before) .args in
+    answer-11 (program (b .before)) (sizes b) (exprs e) (nodes n) (references r)
+    (sym (c .before .widths-ok .ensures (x .exprs .now) (x .nodes .now) (x .chans)) ∙ not-true _ (c .if5 .taken))
+
+returns-6 : tie.Need-returns-6
+returns-6 c =
+    let r = c .before .before in
+    let n = r .before .before in
+    let e = n .before .before in
+    let b = e .before .before in
+    let x = start (b .before) .args in
+    answer-0 (program (b .before)) (sizes b) (exprs e) (nodes n) (references r)
+    (sym (c .before .widths-ok .ensures (x .exprs .now) (x .nodes .now) (x .chans)) ∙ not-false _ (c .if5 .left))
 
 pub check-spec : {M : Type 1} → statement M
 check-spec =
@@ -100,4 +126,6 @@ check-spec =
     returns-3
     (λ c κs. search needs)
     returns-4
-    returns-5)
+    (λ c κs. search needs)
+    returns-5
+    returns-6)

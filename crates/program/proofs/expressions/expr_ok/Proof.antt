@@ -4,7 +4,7 @@ use Rattle.program.proofs.expressions.expr_ok.Statement.{statement}
 use Rattle.program.proofs.expressions.expr_ok.Tie as tie
 
 returns : tie.Need-returns
-returns c nodes chans =
+returns c nodes widths chans =
     let b = c .before in
     rw (c .expr-words-ok .ensures, b .q-word .ensures, b .before .p-word .ensures, b .before .before .op-word .ensures)
 

@@ -14,32 +14,33 @@ use Rattle.program.proofs.expressions.first_faulty_expr.Tie as tie
 
 abbrev Inv-loop : tie.InvT-loop
 Inv-loop exprs vars count i₀ i =
-    (i ≤ count) × ((nodes : List ℕ) (chans : ℕ) → every (exprOk (programOf exprs nodes vars chans)) (below i) ≡ true)
+    (i ≤ count) × ((nodes widths : List ℕ) (chans : ℕ)
+    → every (exprOk (programOf exprs nodes widths vars chans)) (below i) ≡ true)
 
 abbrev μ-loop : tie.MeasureT-loop
 μ-loop exprs vars count i₀ i = count - i
 
 loop-holds : tie.Need-loop-holds Inv-loop μ-loop
 unfolding every upFrom
-loop-holds c = (search needs, λ nodes chans. refl)
+loop-holds c = (search needs, λ nodes widths chans. refl)
 
 returns : tie.Need-returns Inv-loop μ-loop
-returns c nodes chans =
+returns c nodes widths chans =
     let l = c .before .before .before .loop in
-    failed _ _ (l .i) _ (l .inv .0) (l .inv .1 nodes chans) (c .before .expr-ok .ensures nodes chans) (c .if1 .taken)
+    failed _ _ (l .i) _ (l .inv .0) (l .inv .1 nodes widths chans) (c .before .expr-ok .ensures nodes widths chans) (c .if1 .taken)
 
 loop-again : tie.Need-loop-again Inv-loop μ-loop
 loop-again c =
     let l = c .before .before .before .loop in (
       omega arith,
-      λ nodes chans.
-          passed-more _ (l .i) _ (l .inv .1 nodes chans) (c .before .expr-ok .ensures nodes chans) (c .if1 .left),
+      λ nodes widths chans.
+          passed-more _ (l .i) _ (l .inv .1 nodes widths chans) (c .before .expr-ok .ensures nodes widths chans) (c .if1 .left),
     )
 
 returns-2 : tie.Need-returns-2 Inv-loop μ-loop
-returns-2 c nodes chans =
+returns-2 c nodes widths chans =
     let l = c .before .loop in
-    all-passed _ _ (l .i) (l .inv .0) (c .loop-test .left) (l .inv .1 nodes chans)
+    all-passed _ _ (l .i) (l .inv .0) (c .loop-test .left) (l .inv .1 nodes widths chans)
 
 pub first-faulty-expr-spec : {M : Type 1} → statement M
 first-faulty-expr-spec =

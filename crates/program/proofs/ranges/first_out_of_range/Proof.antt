@@ -1,7 +1,8 @@
 -- `first_out_of_range` stops at the first node with a fault of question 4. The invariant: no node passed has one.
 use mathlib.Core.Path.{_≡_, refl}
 use mathlib.Core.Bool.{true}
-use Prim.Native.Nat.{_-_, _≤_}
+use mathlib.Core.List.{List}
+use Prim.Native.Nat.{ℕ, _-_, _≤_}
 use native.Mathlib.Omega.{arith}
 use borrow.Author.Needs.{needs}
 use Rattle.semantics.specs.Numbers.{upFrom, below, every}
@@ -13,27 +14,30 @@ use Rattle.program.proofs.ranges.first_out_of_range.Tie as tie
 
 abbrev Inv-loop : tie.InvT-loop
 Inv-loop exprs nodes vars chans count i₀ i =
-    (i ≤ count) × (every (referencesOk (programOf exprs nodes vars chans)) (below i) ≡ true)
+    (i ≤ count) × ((widths : List ℕ) → every (referencesOk (programOf exprs nodes widths vars chans)) (below i) ≡ true)
 
 abbrev μ-loop : tie.MeasureT-loop
 μ-loop exprs nodes vars chans count i₀ i = count - i
 
 loop-holds : tie.Need-loop-holds Inv-loop μ-loop
 unfolding every upFrom
-loop-holds c = (search needs, refl)
+loop-holds c = (search needs, λ widths. refl)
 
 returns : tie.Need-returns Inv-loop μ-loop
-returns c =
+returns c widths =
     let l = c .before .before .before .loop in
-    failed _ _ (l .i) _ (l .inv .0) (l .inv .1) (c .before .references-ok .ensures) (c .if1 .taken)
+    failed _ _ (l .i) _ (l .inv .0) (l .inv .1 widths) (c .before .references-ok .ensures widths) (c .if1 .taken)
 
 loop-again : tie.Need-loop-again Inv-loop μ-loop
 loop-again c =
-    let l = c .before .before .before .loop in
-    (omega arith, passed-more _ (l .i) _ (l .inv .1) (c .before .references-ok .ensures) (c .if1 .left))
+    let l = c .before .before .before .loop in (
+      omega arith,
+      λ widths. passed-more _ (l .i) _ (l .inv .1 widths) (c .before .references-ok .ensures widths) (c .if1 .left),
+    )
 
 returns-2 : tie.Need-returns-2 Inv-loop μ-loop
-returns-2 c = let l = c .before .loop in all-passed _ _ (l .i) (l .inv .0) (c .loop-test .left) (l .inv .1)
+returns-2 c widths =
+    let l = c .before .loop in all-passed _ _ (l .i) (l .inv .0) (c .loop-test .left) (l .inv .1 widths)
 
 pub first-out-of-range-spec : {M : Type 1} → statement M
 first-out-of-range-spec =

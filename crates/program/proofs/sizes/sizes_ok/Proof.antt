@@ -6,7 +6,7 @@ use Rattle.program.proofs.sizes.sizes_ok.Tie as tie
 
 returns : tie.Need-returns
 unfolding sizesOk
-returns c = refl
+returns c widths = refl
 
 pub sizes-ok-spec : {M : Type 1} → statement M
 sizes-ok-spec = tie.close (tie.spec returns)
