@@ -18,7 +18,7 @@ use Rattle.semantics.specs.Cycle.{newValues, walked, visit}
 use Rattle.semantics.proofs.Run.CrossOut.{markCount-cons}
 use Rattle.semantics.proofs.Order.Stores.{newValues-length}
 use Rattle.player.specs.Begin.{stateOf}
-use Rattle.player.specs.Work.{Memo, KeptFrom, Unworked, Climbing, met}
+use Rattle.player.specs.Work.{Memo, KeptFrom, Unworked, Climbing, Masks, met}
 use Rattle.player.specs.Walks.{walk, walkIn, holdsIn, Walking, Walks}
 use Rattle.player.specs.WellFormed.{ListsFit}
 use Rattle.player.specs.Entries.{setAll}
@@ -28,7 +28,7 @@ use Rattle.player.specs.Cycle.{walkAfter}
 use Rattle.player.proofs.WorkLaws.{memo-set, memo-rewritten, memo-unworked, tally-set, met-set-tally}
 use Rattle.player.proofs.AcceptedLaws.{accepted-walkable}
 use Rattle.player.proofs.EntryLaws.{all-fit, all-marked}
-use Rattle.player.proofs.HeldLaws.{paired-stays, aged-stays, exchanged-fit}
+use Rattle.player.proofs.HeldLaws.{put-masked, paired-stays, aged-stays, exchanged-fit}
 use Rattle.player.proofs.UndoLaws.{countFrom, formed-bits, formed-counts}
 
 no-marks : (n : ℕ) → markCount (replicate n 0) ≡ 0
@@ -49,9 +49,15 @@ module _ {exprs nodes values marks counts entries before claims₀ : List ℕ}
   module _ {changed : Bool} {values′ work claims : List ℕ} (s : Stored values before claims₀ changed values′ work claims)
     where
       right : values′ ≡ newValues (programFrom from) (stateOf values marks counts) entries
-      right = s .right ∙ x .pending .right counts
+      right =
+          s .right
+          ∙ put-masked (from .widths) before claims₀ (getD claims₀ 3585 0) values (x .masks) in-range
+          ∙ x .pending .right counts
+        where
+          in-range : (j : ℕ) → j < getD claims₀ 3585 0 → getD claims₀ (1536 + j) 0 < 256
+          in-range j l = let t = x .pending .fit .targets j l in let f = few in omega arith
 
-      pub stored-size : length work ≡ 3331
+      pub stored-size : length work ≡ 3587
       stored-size = s .size ∙ x .memo .size
 
       variables : (v : ℕ) → v < length values′ → getD work v 0 ≡ getD values′ v 0
@@ -124,6 +130,10 @@ module _ {exprs nodes values marks counts entries before claims₀ : List ℕ}
         getD-set-other work 2305 (2307 + i) 0 0 (λ e. omega arith) ∙ s .kept (2307 + i) (omega arith)
         ∙ x .climbing i l
 
+    masks : Masks (from .widths) (set work 2305 0)
+    masks v l =
+        getD-set-other work 2305 (3331 + v) 0 0 (λ e. omega arith) ∙ s .kept (3331 + v) (omega arith) ∙ x .masks v l
+
     unmet : met (set work 2305 0) ≡ false
     unmet =
         met-set-tally work 0
@@ -169,6 +179,7 @@ module _ {exprs nodes values marks counts entries before claims₀ : List ℕ}
                 memo = w .walking .memo;
                 tally = w .walking .tally;
                 climbing = λ i l. w .kept (2307 + i) (omega arith) ∙ climbing i l;
+                masks = λ v l. w .kept (3331 + v) (omega arith) ∙ masks v l;
                 unmet = z;
               };
               aged = s .aged;

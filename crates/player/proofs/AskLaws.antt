@@ -93,7 +93,7 @@ module _ {exprs nodes values marks counts entries : List ℕ} (x : CycleFrom exp
         pub answer-none : {marks′ before work claims₁ claims : List ℕ} {apart : Bool}
             → channelsFree (programFrom x) marks ≡ true → getD claims₁ 3584 0 ≡ getD claims₀ 3584 0
             → RightSides (cycleOf x active) values before claims₁ apart work claims → apart ≡ true
-            → Carried exprs nodes values marks before → marks′ ≡ replicate (length marks) 0
+            → Carried exprs nodes (x .widths) values marks before → marks′ ≡ replicate (length marks) 0
             → AskAnswer x claims₀ 0 marks′ work claims
         answer-none {claims = claims} free stamp sides isApart carried clear =
             let apart = sym (sides .answer) ∙ isApart in
@@ -109,6 +109,7 @@ module _ {exprs nodes values marks counts entries : List ℕ} (x : CycleFrom exp
                 pending = sides .pending isApart;
                 memo = sides .memo;
                 climbing = λ i l. sides .kept (2307 + i) (omega arith) ∙ carried .climbing i l;
+                masks = λ v l. sides .kept (3331 + v) (omega arith) ∙ carried .masks v l;
                 unmet = sides .kept 2306 (omega arith) ∙ carried .unmet;
               };
               same = λ z. refl;

@@ -8,6 +8,7 @@ use lib.Dec.{eqb}
 use Rattle.semantics.specs.Program.{Program}
 use Rattle.semantics.specs.Questions.{Question, ask, firstNo}
 use Rattle.semantics.specs.Check.{checkQuestions, checkNumber, isFaultItem}
+use Rattle.semantics.specs.Widths.{valuesInRange}
 use Rattle.semantics.specs.State.{State, lengthsOk}
 use Rattle.semantics.specs.Calls.{Answer, answer, rootWalk, beginAnswer}
 use Rattle.program.specs.Answer.{CheckAnswer}
@@ -18,7 +19,9 @@ use Rattle.player.proofs.RunAnswerLaws.{after-check}
 module _ (P : Program) (s : State) where
   -- the questions of begin, and its answer when the first no has number q
   abbrev later : List Question
-  later = ask 5 (lengthsOk P s) ∷ ask 10 (not (rootWalk P (s .values) .looped)) ∷ []
+  later =
+      ask 5 (lengthsOk P s) ∷ ask 6 (valuesInRange (P .widths) (s .values))
+      ∷ ask 10 (not (rootWalk P (s .values) .looped)) ∷ []
 
   abbrev questions : List Question
   questions = checkQuestions P ++ later
@@ -54,16 +57,22 @@ module _ (P : Program) (s : State) where
     unfolding isFaultItem
     answer-5 n = refused 5 0 (after-check P later 0 ok ∙ rw n) refl refl
 
-    module _ (lengths : lengthsOk P s ≡ true) {looped : Bool} {marks counts : List ℕ}
+    pub answer-6 : lengthsOk P s ≡ true → valuesInRange (P .widths) (s .values) ≡ false
+        → BeginAnswer P s 6 0 (s .marks) (s .counts)
+    unfolding isFaultItem
+    answer-6 lengths n = refused 6 0 (after-check P later 0 ok ∙ rw (lengths, n)) refl refl
+
+    module _ (lengths : lengthsOk P s ≡ true) (inRange : valuesInRange (P .widths) (s .values) ≡ true) {looped : Bool}
+        {marks counts : List ℕ}
         (written : WrittenUnlessLooped (rootWalk P (s .values)) (s .marks) (s .counts) looped marks counts) where
       pub answer-10 : looped ≡ true → BeginAnswer P s 10 0 marks counts
       unfolding isFaultItem
       answer-10 e =
-          let n : firstNo questions ≡ 10 = after-check P later 0 ok ∙ rw (lengths, ← written .rightLooped, e) in
+          let n : firstNo questions ≡ 10 = after-check P later 0 ok ∙ rw (lengths, inRange, ← written .rightLooped, e) in
           rw (written .rightMarks, written .rightCounts, e) (refused 10 0 n refl refl)
 
       pub answer-0 : looped ≡ false → BeginAnswer P s 0 0 marks counts
       unfolding isFaultItem
       answer-0 e =
-          let n : firstNo questions ≡ 0 = after-check P later 0 ok ∙ rw (lengths, ← written .rightLooped, e) in
+          let n : firstNo questions ≡ 0 = after-check P later 0 ok ∙ rw (lengths, inRange, ← written .rightLooped, e) in
           rw (written .rightMarks, written .rightCounts, e) (by-number 0 0 n refl (answerAt 0) refl refl)

@@ -20,16 +20,17 @@ use Rattle.semantics.proofs.Lists.QuestionLaws.{accepted, firstNo-append}
 use Rattle.semantics.proofs.Order.CycleOrder.{fits-lengths}
 use Rattle.program.specs.Answer.{programOf}
 use Rattle.player.specs.Begin.{stateOf}
-use Rattle.player.specs.Cycle.{Runnable, CycleAnswer, CycleFrom, programFrom, Started, Advanced, walkAfter}
+use Rattle.player.specs.Cycle.{Runnable, Carried, CycleAnswer, CycleFrom, programFrom, Started, Advanced, walkAfter}
 use Rattle.player.specs.Cycle.{firstQuestions, AskAnswer, AdvanceAnswer, WorkedCycle}
 
 -- the next m entries of the book, as many as there are marks
-abbrev pub cycle-from : {exprs nodes values marks counts : List ℕ} {vars chans m : ℕ} (book : List ℕ)
-    → Runnable (programOf exprs nodes vars chans) (stateOf values marks counts) → m ≡ markCount marks
+abbrev pub cycle-from : {exprs nodes values marks counts : List ℕ} {widths : List ℕ} {vars chans m : ℕ}
+    (book : List ℕ) → Runnable (programOf exprs nodes widths vars chans) (stateOf values marks counts) → m ≡ markCount marks
     → m ≤ length book → CycleFrom exprs nodes values marks counts (take m book)
-cycle-from {exprs} {nodes} {values} {marks} {counts} {vars} {chans} {m} book r count enough =
-    let P = programOf exprs nodes vars chans in
+cycle-from {exprs} {nodes} {values} {marks} {counts} {widths} {vars} {chans} {m} book r count enough =
+    let P = programOf exprs nodes widths vars chans in
     record {
+      widths = widths;
       variables = vars;
       channels = chans;
       accepted = accepted P (r .accepted);
@@ -122,6 +123,7 @@ module _ (P : Program) (s : State) (book : List ℕ) {m : ℕ} (count : m ≡ ma
             (subst (λ (Q : Program). targetsApart Q (s .marks) ≡ true) same (begun .apart))
             (subst (λ (Q : Program). Advanced Q s (take m book) number (stateOf values′ marks′ counts′)) same
             (b .advanced));
-        carried = b .carried;
+        carried = λ z. subst (λ (Q : Program). Carried (P .exprs) (P .nodes) (Q .widths) values′ marks′ work) same
+            (b .carried z);
         aged = λ z. b .aged (getD claims₀ 3584 0) (a .aged none);
       }

@@ -6,9 +6,12 @@ use Prim.Native.Nat.{ℕ, zero, suc, _+_, _≤_, _<_}
 use native.Mathlib.Omega.{arith}
 use lib.ListN.{length, getD, set, length-set}
 use lib.Seq.{getD-set-same, getD-set-other}
+use Rattle.semantics.specs.Widths.{truncated}
+use Rattle.player.specs.Work.{Masks, maskedBy}
 use Rattle.player.specs.Claims.{Aged, rankIn}
 use Rattle.player.specs.Channels.{CycleOf, Paired}
 use Rattle.player.specs.Stores.{putFirst, takenBack, HeldFit, Exchanged}
+use Rattle.player.proofs.MaskLaws.{masked}
 use Rattle.player.proofs.RankLaws.{rank-kept}
 
 -- ---- lists that agree in the first n stores
@@ -20,12 +23,13 @@ module _ (before claims : List ℕ) where
       (j : ℕ) → j < n
       → (getD claims (1536 + j) 0 ≡ getD before (1536 + j) 0) × (getD claims (2560 + j) 0 ≡ getD before (2560 + j) 0)
 
-  pub put-same : (n : ℕ) (values : List ℕ) → HoldSame n → putFirst claims n values ≡ putFirst before n values
-  put-same zero values h = refl
-  put-same (suc n) values h =
-      let first = put-same n values (λ j l. h j (omega arith)) in
+  pub put-same : (keep : ℕ → ℕ → ℕ) (n : ℕ) (values : List ℕ) → HoldSame n
+      → putFirst keep claims n values ≡ putFirst keep before n values
+  put-same keep zero values h = refl
+  put-same keep (suc n) values h =
+      let first = put-same keep n values (λ j l. h j (omega arith)) in
       let last = h n (omega arith) in
-      λ i. set (first i) (last .0 i) (last .1 i)
+      λ i. set (first i) (last .0 i) (keep (last .0 i) (last .1 i))
 
   pub back-same : (n : ℕ) (values : List ℕ) → HoldSame n → takenBack claims n values ≡ takenBack before n values
   back-same zero values h = refl
@@ -34,11 +38,17 @@ module _ (before claims : List ℕ) where
       (λ i. takenBack claims n (set values (last .0 i) (last .1 i)))
       ∙ back-same n (set values (getD before (1536 + n) 0) (getD before (2560 + n) 0)) (λ j l. h j (omega arith))
 
-pub put-length : (claims : List ℕ) (n : ℕ) (values : List ℕ) → length (putFirst claims n values) ≡ length values
-put-length claims zero values = refl
-put-length claims (suc n) values =
-    length-set (putFirst claims n values) (getD claims (1536 + n) 0) (getD claims (2560 + n) 0)
-    ∙ put-length claims n values
+-- what variables keep by their masks is what they keep by their widths
+pub put-masked : (widths work claims : List ℕ) (n : ℕ) (values : List ℕ) → Masks widths work
+    → ((j : ℕ) → j < n → getD claims (1536 + j) 0 < 256)
+    → putFirst (maskedBy work) claims n values ≡ putFirst (truncated widths) claims n values
+put-masked widths work claims zero values masks fit = refl
+put-masked widths work claims (suc n) values masks fit =
+    let variable = getD claims (1536 + n) 0 in
+    let value = getD claims (2560 + n) 0 in
+    let first = put-masked widths work claims n values masks (λ j l. fit j (omega arith)) in
+    let last = masked widths work variable value masks (fit n (omega arith)) in
+    λ i. set (first i) variable (last i)
 
 -- ---- what is written past all ranks
 
@@ -99,10 +109,11 @@ module _ (claims : List ℕ) (n v value : ℕ) where
     pub hold-stamp : getD holding 3584 0 ≡ getD claims 3584 0
     hold-stamp = hold-other 3584 (λ e. omega arith) (λ e. omega arith)
 
-    pub put-held : (values : List ℕ) → putFirst holding (suc n) values ≡ set (putFirst claims n values) v value
-    put-held values =
-        let first = put-same claims holding n values hold-same in
-        λ i. set (first i) (hold-target i) (hold-value i)
+    pub put-held : (keep : ℕ → ℕ → ℕ) (values : List ℕ)
+        → putFirst keep holding (suc n) values ≡ set (putFirst keep claims n values) v (keep v value)
+    put-held keep values =
+        let first = put-same claims holding keep n values hold-same in
+        λ i. set (first i) (hold-target i) (keep (hold-target i) (hold-value i))
 
 -- ---- the number of stores is written
 

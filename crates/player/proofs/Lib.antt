@@ -8,6 +8,7 @@ pub mod OperandLaws
 pub mod WorkLaws
 pub mod MomentLaws
 pub mod MarkLaws
+pub mod MaskLaws
 pub mod StartLaws
 pub mod OutcomeLaws
 pub mod WalkingLaws

@@ -16,14 +16,14 @@ use borrow.Author.Tests.{eqb-true, eqb-false, lt-ltb, le-ltb}
 use Rattle.semantics.specs.Numbers.{below, every}
 use Rattle.semantics.specs.Program.{nodeCount, kindAt, parentAt}
 use Rattle.semantics.specs.Parents.{parent, isChild}
-use Rattle.semantics.specs.State.{marked, holdsMark, liveChildren}
+use Rattle.semantics.specs.State.{marked, holdsMark, liveChildren, controlFormed}
 use Rattle.semantics.specs.Facts.{locallyOk, nodeWellFormed}
 use Rattle.semantics.proofs.Lists.Logic.{true-or-false, lt-or-le}
 use Rattle.semantics.proofs.Lists.ParentLaws.{is-parent}
 use Rattle.semantics.proofs.Tree.NodeLaws.{parent-word, root-parent}
 use Rattle.semantics.proofs.Tree.LiveChildren.{live-from-last, live-from-most, live-from-step, live-from-own, holdsMark-own}
-use Rattle.semantics.proofs.Tree.WellFormedLocally.{wellFormed-locally}
-use Rattle.player.specs.WellFormed.{ListsFit, WellFormedAnswer, addedToParent, ParentFits, LiveTable}
+use Rattle.semantics.proofs.Tree.WellFormedLocally.{controlFormed-locally}
+use Rattle.player.specs.WellFormed.{ListsFit, addedToParent, ParentFits, LiveTable}
 
 -- one more at p
 one-more : (live : List ℕ) (p h : ℕ) → p < length live
@@ -148,11 +148,7 @@ module _ {nodes marks counts : List ℕ} {i : ℕ} {live : List ℕ} (lists : Li
         ];
       }
 
--- question 6 of any program and state with these lists
+-- what question 6 asks of marks and counts
 pub answer-right : {nodes marks counts : List ℕ} → ListsFit nodes marks counts
-    → WellFormedAnswer nodes marks counts (every (locallyOk nodes marks counts) (below (nodeCount nodes)))
-answer-right lists =
-    record {
-      right = λ P s n m k.
-          rw (← n, ← m, ← k) (sym (wellFormed-locally P s (rw n (lists .nodesOk)) (rw (n, m) (lists .marksFit))));
-    }
+    → every (locallyOk nodes marks counts) (below (nodeCount nodes)) ≡ controlFormed nodes marks counts
+answer-right lists = sym (controlFormed-locally _ _ _ (lists .nodesOk) (lists .marksFit))

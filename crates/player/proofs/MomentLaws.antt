@@ -16,7 +16,7 @@ use Rattle.player.specs.Work.{Memo, KeptFrom, Worked, WorkedTo, NotedTo,
 
 -- ---- moments
 
-pub none-forgotten : (work : List ℕ) → length work ≡ 3331 → Forgotten work work 1280
+pub none-forgotten : (work : List ℕ) → length work ≡ 3587 → Forgotten work work 1280
 none-forgotten work size = record {
   range = (omega arith, omega arith);
   size = size;
@@ -45,7 +45,7 @@ one-forgotten {before} {work} {i} f l =
     }
 
 -- a moment n that is above all moments
-pub unworked-at : (before work : List ℕ) (n : ℕ) → length work ≡ 3331
+pub unworked-at : (before work : List ℕ) (n : ℕ) → length work ≡ 3587
     → ((j : ℕ) → j < 1280 → getD work j 0 ≡ getD before j 0) → KeptFrom 2305 before work
     → ((e : ℕ) → e < 1024 → getD work (1280 + e) 0 < n) → Unworked before (set work 2304 n)
 unworked-at before work n size front kept above =
@@ -69,16 +69,16 @@ module _ (work : List ℕ) (e value : ℕ) (l : e < 1024) where
   pub noted-kept : KeptFrom 2304 work (noted work e value)
   noted-kept j u = noted-other j (λ (d : j ≡ 256 + e). omega arith) (λ (d : j ≡ 1280 + e). omega arith)
 
-  pub noted-size : length work ≡ 3331 → length (noted work e value) ≡ 3331
+  pub noted-size : length work ≡ 3587 → length (noted work e value) ≡ 3587
   noted-size size =
       length-set (set work (256 + e) value) (1280 + e) (getD work 2304 0) ∙ length-set work (256 + e) value ∙ size
 
-  noted-value : length work ≡ 3331 → getD (noted work e value) (256 + e) 0 ≡ value
+  noted-value : length work ≡ 3587 → getD (noted work e value) (256 + e) 0 ≡ value
   noted-value size =
       getD-set-other (set work (256 + e) value) (1280 + e) (256 + e) (getD work 2304 0) 0 (λ d. omega arith)
       ∙ getD-set-same work (256 + e) value 0 (omega arith)
 
-  noted-moment : length work ≡ 3331 → getD (noted work e value) (1280 + e) 0 ≡ getD work 2304 0
+  noted-moment : length work ≡ 3587 → getD (noted work e value) (1280 + e) 0 ≡ getD work 2304 0
   noted-moment size =
       let same = length-set work (256 + e) value in
       getD-set-same (set work (256 + e) value) (1280 + e) (getD work 2304 0) 0 (omega arith)
@@ -237,7 +237,7 @@ module _ (exprs values work : List ℕ) where
 
 -- ---- notes
 
-pub noted-none : (work : List ℕ) (i : ℕ) → length work ≡ 3331 → NotedTo work work i
+pub noted-none : (work : List ℕ) (i : ℕ) → length work ≡ 3587 → NotedTo work work i
 noted-none work i size = record { size = size; front = λ j l. refl; moments = λ e l. inl refl; kept = λ j l. refl }
 
 pub noted-one : {before work : List ℕ} {i : ℕ} → NotedTo before work i → i < 1024

@@ -29,7 +29,7 @@ passed-stays false outcome w n = refl
 passed-stays true outcome w n = rw (ne-eqb outcome 0 n)
 
 -- what finished is noted
-noted : (looping isFinished : Bool) (marks counts work : List ℕ) → length work ≡ 3331
+noted : (looping isFinished : Bool) (marks counts work : List ℕ) → length work ≡ 3587
     → passed looping (cond isFinished (finished (walkIn marks counts work)) (stays (walkIn marks counts work)))
     ≡ (let w = walkIn marks counts (cond (looping && isFinished) (set work 2306 1) work) in
     cond isFinished (finished w) (stays w))
@@ -38,7 +38,7 @@ noted false isFinished marks counts work size = refl
 noted true false marks counts work size = refl
 noted true true marks counts work size = rw (getD-set-same work 2306 1 0 (omega arith))
 
-pub passed-entered : (looping : Bool) (outcome : ℕ) (marks counts work : List ℕ) → length work ≡ 3331
+pub passed-entered : (looping : Bool) (outcome : ℕ) (marks counts work : List ℕ) → length work ≡ 3587
     → passed looping (entered outcome (walkIn marks counts work))
     ≡ entered outcome (walkIn marks counts (cond (looping && eqb outcome 0) (set work 2306 1) work))
 unfolding entered

@@ -35,7 +35,7 @@ no-marks n =
 
 -- no mark stands yet, and no loop was met
 pub root-walking : {exprs nodes values work : List ℕ} → Walkable exprs nodes values → Memo exprs values work
-    → KeptFrom 2305 (replicate 3331 0) work
+    → KeptFrom 2305 (replicate 3587 0) work
     → let blank : List ℕ = replicate (nodeCount nodes) 0 in Walking exprs nodes values blank blank work
 root-walking {nodes = nodes} w memo kept =
     let n = nodeCount nodes in
@@ -44,24 +44,24 @@ root-walking {nodes = nodes} w memo kept =
       marksFit = length-replicate {A = ℕ} n 0;
       countsFit = length-replicate {A = ℕ} n 0;
       memo = memo;
-      tally = kept 2305 (omega arith) ∙ zeros 3331 2305 ∙ sym (no-marks n);
+      tally = kept 2305 (omega arith) ∙ zeros 3587 2305 ∙ sym (no-marks n);
     }
 
 walkOf-cond : (isFinished : Bool) (w : Walk) → walkOf (cond isFinished (finished w) (stays w)) ≡ w
 walkOf-cond true w = refl
 walkOf-cond false w = refl
 
-pub root-walked : (exprs nodes values before : List ℕ) (vars chans outcome : ℕ) (marks counts work : List ℕ)
-    → 0 < nodeCount nodes → KeptFrom 2305 (replicate 3331 0) before
+pub root-walked : (exprs nodes widths values before : List ℕ) (vars chans outcome : ℕ) (marks counts work : List ℕ)
+    → 0 < nodeCount nodes → KeptFrom 2305 (replicate 3587 0) before
     → (let blank : List ℕ = replicate (nodeCount nodes) 0 in
     Enters exprs nodes values before
     (enter (holdsIn exprs values) (statementAt nodes 0) (walkIn blank blank before)) outcome marks counts work)
-    → rootWalk (programOf exprs nodes vars chans) values ≡ walkIn marks counts work
+    → rootWalk (programOf exprs nodes widths vars chans) values ≡ walkIn marks counts work
 unfolding rootWalk entered
-root-walked exprs nodes values before vars chans outcome marks counts work some kept e =
+root-walked exprs nodes widths values before vars chans outcome marks counts work some kept e =
     let blank : List ℕ = replicate (nodeCount nodes) 0 in
     let unmet : false ≡ met before =
-    sym (ap (λ (x : ℕ). not (eqb x 0)) (kept 2306 (omega arith) ∙ zeros 3331 2306)) in
+    sym (ap (λ (x : ℕ). not (eqb x 0)) (kept 2306 (omega arith) ∙ zeros 3587 2306)) in
     ap (λ (t : Stmt). walkOf (enter (holdsIn exprs values) t (walk blank blank false)))
     (tree-at nodes (e .walking .walkable .nodesOk) some)
     ∙ ap (λ (b : Bool). walkOf (enter (holdsIn exprs values) (statementAt nodes 0) (walk blank blank b))) unmet

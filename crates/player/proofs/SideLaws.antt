@@ -13,6 +13,7 @@ use lib.Dec.{eqb, leb}
 use lib.ListN.{length, getD, set, drop, length-set, drop-of-length-le}
 use borrow.Author.Tests.{le-leb, leb-true, eqb-true}
 use Rattle.semantics.specs.Numbers.{filter}
+use Rattle.semantics.specs.Widths.{truncated}
 use Rattle.semantics.specs.Expressions.{exprValues}
 use Rattle.semantics.specs.State.{marked, active}
 use Rattle.semantics.specs.Completion.{stores, source, targetsApart}
@@ -53,6 +54,10 @@ module _ {nodes entries : List ℕ} (x : CycleOf nodes entries) where
         inputs = λ j m. others 0 j (omega arith) (λ e. omega arith) ∙ p .inputs j m;
         outputs = λ j m. others 256 j (omega arith) (λ e. omega arith) ∙ p .outputs j m;
       }
+
+  -- what a variable keeps of a value
+  abbrev keep : ℕ → ℕ → ℕ
+  keep = truncated (x .widths)
 
   -- at most one marked node stores to the variable
   abbrev storesTo : ℕ → ℕ → Bool
@@ -103,8 +108,8 @@ module _ {nodes entries : List ℕ} (x : CycleOf nodes entries) where
               targets = λ j u. rw (other (1536 + j) (λ e. omega arith)) (h .targets j (omega arith));
             };
             right = λ counts.
-                ap (λ (c : ℕ). putFirst (counted claims n) c values) here
-                ∙ put-same claims (counted claims n) n values (counted-same claims n (omega arith))
+                ap (λ (c : ℕ). putFirst keep (counted claims n) c values) here
+                ∙ put-same claims (counted claims n) keep n values (counted-same claims n (omega arith))
                 ∙ sym (h .rest ∙ rw (drop-of-length-le entries {i = k} l));
           }
 
@@ -135,10 +140,10 @@ module _ {nodes entries : List ℕ} (x : CycleOf nodes entries) where
             omega arith)
 
         -- the entry's store in the rules gives these values
-        next : {values′ : List ℕ} → storeFrom x values (putFirst claims n values) entry ≡ values′
+        next : {values′ : List ℕ} → storeFrom x values (putFirst keep claims n values) entry ≡ values′
             → foldl (storeFrom x values) values entries ≡ foldl (storeFrom x values) values′ (drop (k + 1) entries)
         next e =
-            h .rest ∙ fold-next (storeFrom x values) (putFirst claims n values) entries k l
+            h .rest ∙ fold-next (storeFrom x values) (putFirst keep claims n values) entries k l
             ∙ ap (λ (v : List ℕ). foldl (storeFrom x values) v (drop (k + 1) entries)) e
 
         -- an entry that stores nothing
@@ -151,7 +156,7 @@ module _ {nodes entries : List ℕ} (x : CycleOf nodes entries) where
                   (claimed-nothing storing (targetAt nodes) 512 claims claims entry (λ slot u. refl) s);
               few = omega arith;
               targets = h .targets;
-              rest = next (not-stored side-entry (exprValues (x .exprs) values) (putFirst claims n values) s);
+              rest = next (not-stored side-entry (exprValues (x .exprs) values) (putFirst keep claims n values) s);
             }
 
         -- an entry that has claimed its variable, and whose right side is held
@@ -187,9 +192,10 @@ module _ {nodes entries : List ℕ} (x : CycleOf nodes entries) where
               let (e, q) = some-source side-entry s in
               let few = h .few in
               let here : target < length values = rw fit (target-inside side-entry s) in
-              let made : putFirst claims₂ (suc n) values ≡ set (putFirst claims n values) target value =
-              put-held claims₁ n target value room size₁ values
-              ∙ ap (λ (v : List ℕ). set v target value) (put-same claims claims₁ n values same) in
+              let made : putFirst keep claims₂ (suc n) values
+              ≡ set (putFirst keep claims n values) target (keep target value) =
+              put-held claims₁ n target value room size₁ keep values
+              ∙ ap (λ (v : List ℕ). set v target (keep target value)) (put-same claims claims₁ keep n values same) in
               record {
                 paired = paired-stays claims₁ claims₂ (hold-length claims₁ n target value) front stamp
                     (claim-paired (h .paired) c (inside s));
@@ -208,7 +214,7 @@ module _ {nodes entries : List ℕ} (x : CycleOf nodes entries) where
                       (rw (hold-target claims₁ n target value room size₁) here)
                 ];
                 rest = next
-                    (stored side-entry (exprValues (x .exprs) values) (putFirst claims n values) e s q
-                    ∙ ap (set (putFirst claims n values) target) (sym (right e q)) ∙ sym made
-                    ∙ ap (λ (i : ℕ). putFirst claims₂ i values) (sym (add-one n)));
+                    (stored side-entry (exprValues (x .exprs) values) (putFirst keep claims n values) e s q
+                    ∙ ap (λ (v : ℕ). set (putFirst keep claims n values) target (keep target v)) (sym (right e q))
+                    ∙ sym made ∙ ap (λ (i : ℕ). putFirst keep claims₂ i values) (sym (add-one n)));
               }

@@ -10,6 +10,7 @@ use lib.Dec.{eqb}
 use lib.ListN.{getD, set}
 use borrow.Author.Tests.{ne-eqb, eqb-true, eqb-false}
 use Rattle.semantics.specs.Program.{exprCount, nodeCount, kindOf, aAt, bAt}
+use Rattle.semantics.specs.Widths.{truncated}
 use Rattle.semantics.specs.State.{marked}
 use Rattle.semantics.specs.Completion.{isAsg, isIn, isOut, sentBy, storeValue, markedOn, waits, stores, source, store}
 use Rattle.semantics.proofs.Lists.Logic.{and-left, and-right, or-cases, true-or-false}
@@ -138,9 +139,10 @@ module _ {nodes claims : List ℕ} {i : ℕ} (x : PairedEntry nodes claims i) wh
 
   module _ (table values : List ℕ) where
     pub stored : (e : ℕ) → entryStores ≡ true → entrySource ≡ some e
-        → store (program (x .cycle)) (x .cycle .marks) table values i ≡ set values (targetAt nodes i) (getD table e 0)
+        → store (program (x .cycle)) (x .cycle .marks) table values i
+        ≡ set values (targetAt nodes i) (truncated (x .cycle .widths) (targetAt nodes i) (getD table e 0))
     unfolding store
-    stored e s q = rw s (ap (storeValue table values (targetAt nodes i)) q)
+    stored e s q = rw s (ap (storeValue (x .cycle .widths) table values (targetAt nodes i)) q)
 
     pub not-stored : entryStores ≡ false → store (program (x .cycle)) (x .cycle .marks) table values i ≡ values
     unfolding store

@@ -7,13 +7,14 @@ use Prim.Native.Nat.{ℕ, suc, _+_, _≤_, _<_}
 use native.Mathlib.Nat.{le-refl}
 use native.Mathlib.Numerals.{add-one}
 use native.Mathlib.Omega.{arith}
+use lib.Bits.{bitAnd}
 use lib.Dec.{eqb}
 use lib.ListN.{length, getD, set, length-set}
 use lib.Seq.{getD-set-same, getD-set-other, set-getD, set-set}
 use borrow.Author.Tests.{eqb-true, eqb-false, not-false}
 use Rattle.semantics.proofs.Lists.Logic.{or-left, or-right, true-or-false}
-use Rattle.player.specs.Work.{KeptFrom}
-use Rattle.player.specs.Stores.{putFirst, takenBack, HeldFit, Exchanged, Stored}
+use Rattle.player.specs.Work.{KeptFrom, maskedBy}
+use Rattle.player.specs.Stores.{putFirst, storeAt, takenBack, HeldFit, Exchanged, Stored}
 use Rattle.player.proofs.HeldLaws.{back-same}
 
 -- a list of which one element is written, where two lists agree
@@ -39,7 +40,7 @@ module _ (old before claims₀ : List ℕ) where
   pub record StoredTo (changed : Bool) (values work claims : List ℕ) (n : ℕ) : Type 0 where
     pub size : length work ≡ length before
     pub valuesSize : length values ≡ length old
-    pub right : values ≡ putFirst claims₀ n old
+    pub right : values ≡ putFirst (maskedBy before) claims₀ n old
     pub variables : (v : ℕ) → v < length old → getD work v 0 ≡ getD values v 0
     pub kept : KeptFrom 256 before work
     pub same : changed ≡ false → values ≡ old
@@ -65,7 +66,7 @@ module _ (old before claims₀ : List ℕ) where
     pub stored-all : n ≡ getD claims₀ 3585 0 → Stored old before claims₀ changed values work claims
     stored-all e = record {
       size = h .size;
-      right = h .right ∙ ap (λ (i : ℕ). putFirst claims₀ i old) e;
+      right = h .right ∙ ap (λ (i : ℕ). putFirst (maskedBy before) claims₀ i old) e;
       sameLength = h .valuesSize;
       variables = h .variables;
       kept = h .kept;
@@ -79,7 +80,7 @@ module _ (old before claims₀ : List ℕ) where
       target = getD claims (1536 + n) 0
 
       abbrev value : ℕ
-      value = getD claims (2560 + n) 0
+      value = storeAt work claims n
 
       room : n < 1024
       room = let few = fit .few in omega arith
@@ -102,7 +103,7 @@ module _ (old before claims₀ : List ℕ) where
           omega arith
 
       -- store n is made
-      pub stored-more : length before ≡ 3331
+      pub stored-more : length before ≡ 3587
           → StoredTo (not (eqb (getD values target 0) value) || changed) (set values target value)
           (set work target value) (set claims (2560 + n) (getD values target 0)) (n + 1)
       stored-more full =
@@ -119,7 +120,10 @@ module _ (old before claims₀ : List ℕ) where
                 let first = h .right in
                 let here = same-target in
                 let new = h .ahead n (le-refl n) in
-                (λ i. set (first i) (here i) (new i)) ∙ ap (λ (i : ℕ). putFirst claims₀ i old) (sym (add-one n));
+                let mask = h .kept (3331 + target) (omega arith) in
+                ap (λ (m : ℕ). set values target (bitAnd (getD claims (2560 + n) 0) m)) mask
+                ∙ (λ i. set (first i) (here i) (maskedBy before (here i) (new i)))
+                ∙ ap (λ (i : ℕ). putFirst (maskedBy before) claims₀ i old) (sym (add-one n));
             variables = agree-set (length old) target value work values (omega (arith, h .size)) stored-target (h .variables);
             kept = λ j m. getD-set-other work target j value 0 (λ e. omega arith) ∙ h .kept j m;
             same = λ r.

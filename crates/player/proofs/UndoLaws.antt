@@ -12,9 +12,10 @@ use lib.ListN.{length, getD, set, length-set}
 use lib.Seq.{getD-set-same, getD-set-other, ext-getD}
 use borrow.Author.Tests.{eqb-true}
 use Rattle.semantics.specs.Program.{Program, Kind, nodeCount, isPar, kindOf, kindAt}
-use Rattle.semantics.specs.State.{State, marked, liveChildren, marksAreBits, leavesMarked, pairsMeetInPar, wellFormed}
+use Rattle.semantics.specs.State.{State, marked, liveChildren, marksAreBits, leavesMarked, pairsMeetInPar, controlFormed, wellFormed}
 use Rattle.semantics.proofs.Lists.Logic.{and-left, lt-or-le, true-or-false, cond-at}
-use Rattle.semantics.proofs.Tree.WellFormedOnTree.{wellFormed-in}
+use Rattle.semantics.proofs.Tree.WellFormedOnTree.{controlFormed-in}
+use Rattle.semantics.proofs.Order.InRange.{control-formed}
 use Rattle.player.specs.Walks.{kindWord}
 use Rattle.player.specs.WellFormed.{ListsFit, addedToParent, LiveTable}
 use Rattle.player.proofs.LiveTableLaws.{own-live, table-step}
@@ -94,10 +95,10 @@ recount-step {nodes} {marks} {counts₀} {i} {counts} {live} lists so-far =
 -- ---- a well-formed state
 module _ (P : Program) (s : State) (formed : wellFormed P s ≡ true) where
   pub formed-bits : marksAreBits (s .marks) ≡ true
-  unfolding wellFormed
+  unfolding controlFormed
   formed-bits =
       and-left (marksAreBits (s .marks)) (leavesMarked (P .nodes) (s .marks))
-      (and-left _ (pairsMeetInPar (P .nodes) (s .marks)) (and-left _ _ formed))
+      (and-left _ (pairsMeetInPar (P .nodes) (s .marks)) (and-left _ _ (control-formed P s formed)))
 
   -- its counts are those that its marks give
   pub formed-counts : length (s .marks) ≡ nodeCount (P .nodes) → length (s .counts) ≡ nodeCount (P .nodes)
@@ -109,4 +110,5 @@ module _ (P : Program) (s : State) (formed : wellFormed P s ≡ true) where
       (λ i l.
       let inside : i < nodeCount (P .nodes) = omega arith in
       right i inside
-      ∙ sym (eqb-true _ _ (wellFormed-in P s marksFit .1 formed .each i (omega arith) inside .counted)))
+      ∙ sym (eqb-true _ _ (controlFormed-in (P .nodes) (s .marks) (s .counts) marksFit .1 (control-formed P s formed)
+      .each i (omega arith) inside .counted)))

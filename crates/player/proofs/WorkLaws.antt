@@ -30,7 +30,7 @@ kept-set place j n work l = λ k m. getD-set-other work j k n 0 (λ (e : k ≡ j
 
 -- ---- the number of marks and the flag
 
-pub tally-set : (work : List ℕ) (n : ℕ) → length work ≡ 3331 → getD (set work 2305 n) 2305 0 ≡ n
+pub tally-set : (work : List ℕ) (n : ℕ) → length work ≡ 3587 → getD (set work 2305 n) 2305 0 ≡ n
 tally-set work n size = getD-set-same work 2305 n 0 (omega arith)
 
 pub met-set-tally : (work : List ℕ) (n : ℕ) → met (set work 2305 n) ≡ met work
@@ -42,7 +42,7 @@ met-kept place before work l f = ap (λ (m : ℕ). not (eqb m 0)) (f 2306 l)
 -- ---- what is known of the values
 
 -- the places up to the moment are as before
-pub memo-same : (exprs values before work : List ℕ) → length work ≡ 3331
+pub memo-same : (exprs values before work : List ℕ) → length work ≡ 3587
     → ((j : ℕ) → j ≤ 2304 → getD work j 0 ≡ getD before j 0) → Memo exprs values before → Memo exprs values work
 memo-same exprs values before work size same m =
     let moment = same 2304 (omega arith) in
@@ -64,7 +64,7 @@ memo-set exprs values work j n l m =
 
 -- The variables have new values in `work`, and nothing else is written.
 pub record Rewritten (values before work : List ℕ) : Type 0 where
-  pub size : length work ≡ 3331
+  pub size : length work ≡ 3587
   pub valuesFit : length values ≤ 256
   pub variables : (v : ℕ) → v < length values → getD work v 0 ≡ getD values v 0
   pub kept : KeptFrom 256 before work

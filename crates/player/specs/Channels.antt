@@ -18,15 +18,16 @@ use Rattle.player.specs.Claims.{rankOf, rankIn, isFree, Claimed, Aged}
 -- and the marks at its start.
 pub record CycleOf (nodes entries : List ℕ) : Type 0 where
   pub exprs : List ℕ
+  pub widths : List ℕ
   pub variables : ℕ
   pub channels : ℕ
   pub marks : List ℕ
-  pub accepted : Accepted (programOf exprs nodes variables channels)
+  pub accepted : Accepted (programOf exprs nodes widths variables channels)
   pub marksFit : length marks ≡ nodeCount nodes
   pub entriesActive : areActive marks entries ≡ true
 
 abbrev pub program : {nodes entries : List ℕ} → CycleOf nodes entries → Program
-program {nodes} x = programOf (x .exprs) nodes (x .variables) (x .channels)
+program {nodes} x = programOf (x .exprs) nodes (x .widths) (x .variables) (x .channels)
 
 -- Node i is a leaf of that kind.
 abbrev pub hasKind : List ℕ → (Leaf → Bool) → ℕ → Bool

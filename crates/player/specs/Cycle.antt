@@ -16,7 +16,7 @@ use Rattle.semantics.specs.Run.{nextEntries}
 use Rattle.semantics.specs.Facts.{Accepted, LengthsFit, Ready}
 use Rattle.program.specs.Answer.{programOf}
 use Rattle.player.specs.Begin.{stateOf}
-use Rattle.player.specs.Work.{Memo, KeptFrom, Climbing}
+use Rattle.player.specs.Work.{Memo, KeptFrom, Climbing, Masks}
 use Rattle.player.specs.Claims.{Aged}
 use Rattle.player.specs.Channels.{CycleOf, Paired}
 use Rattle.player.specs.Stores.{HeldFit, Pending, takenBack}
@@ -26,10 +26,11 @@ pub record Runnable (P : Program) (s : State) : Type 0 where
   pub ready : Ready P s
 
 -- What a run hands from cycle to cycle in `work`.
-pub record Carried (exprs nodes values marks work : List ℕ) : Type 0 where
+pub record Carried (exprs nodes widths values marks work : List ℕ) : Type 0 where
   pub memo : Memo exprs values work
   pub tally : getD work 2305 0 ≡ markCount marks
   pub climbing : Climbing nodes work
+  pub masks : Masks widths work
   pub unmet : getD work 2306 0 ≡ 0
 
 -- One cycle by the next entries of the book: the rules' outcome, and where it is refused, the state as it was.
@@ -40,22 +41,24 @@ pub record CycleAnswer (P : Program) (s : State) (book : List ℕ) (number : ℕ
 -- A cycle of the program with these expressions and nodes, from the state with these lists, by these entries, as many as
 -- there are marks.
 pub record CycleFrom (exprs nodes values marks counts entries : List ℕ) : Type 0 where
+  pub widths : List ℕ
   pub variables : ℕ
   pub channels : ℕ
-  pub accepted : Accepted (programOf exprs nodes variables channels)
-  pub fit : LengthsFit (programOf exprs nodes variables channels) (stateOf values marks counts)
-  pub formed : wellFormed (programOf exprs nodes variables channels) (stateOf values marks counts) ≡ true
+  pub accepted : Accepted (programOf exprs nodes widths variables channels)
+  pub fit : LengthsFit (programOf exprs nodes widths variables channels) (stateOf values marks counts)
+  pub formed : wellFormed (programOf exprs nodes widths variables channels) (stateOf values marks counts) ≡ true
   pub asMany : length entries ≡ markCount marks
 
 abbrev pub programFrom : {exprs nodes values marks counts entries : List ℕ}
     → CycleFrom exprs nodes values marks counts entries → Program
-programFrom {exprs} {nodes} x = programOf exprs nodes (x .variables) (x .channels)
+programFrom {exprs} {nodes} x = programOf exprs nodes (x .widths) (x .variables) (x .channels)
 
 -- The same, once question 7 is answered yes.
 abbrev pub cycleOf : {exprs nodes values marks counts entries : List ℕ}
     → CycleFrom exprs nodes values marks counts entries → areActive marks entries ≡ true → CycleOf nodes entries
 cycleOf {exprs = exprs} {marks = marks} x active = record {
   exprs = exprs;
+  widths = x .widths;
   variables = x .variables;
   channels = x .channels;
   marks = marks;
@@ -78,6 +81,7 @@ pub record Started (exprs nodes values marks counts entries work claims : List �
   pub pending : Pending (cycleOf from active) values claims
   pub memo : Memo exprs values work
   pub climbing : Climbing nodes work
+  pub masks : Masks (from .widths) work
   pub unmet : getD work 2306 0 ≡ 0
 
 -- What the walks of a cycle leave.
@@ -119,11 +123,11 @@ pub record AdvanceAnswer {exprs nodes values marks counts entries before claims�
     (values′ marks′ counts′ work claims : List ℕ) : Type 0 where
   pub advanced : Advanced (programFrom (x .from)) (stateOf values marks counts) entries number
       (stateOf values′ marks′ counts′)
-  pub carried : number ≡ 0 → Carried exprs nodes values′ marks′ work
+  pub carried : number ≡ 0 → Carried exprs nodes (x .from .widths) values′ marks′ work
   pub aged : (n : ℕ) → Aged claims₀ n → Aged claims n
 
 pub record WorkedCycle (P : Program) (s : State) (book claims₀ : List ℕ) (number : ℕ) (s′ : State) (work claims : List ℕ)
     : Type 0 where
   pub answer : CycleAnswer P s book number s′
-  pub carried : number ≡ 0 → Carried (P .exprs) (P .nodes) (s′ .values) (s′ .marks) work
+  pub carried : number ≡ 0 → Carried (P .exprs) (P .nodes) (P .widths) (s′ .values) (s′ .marks) work
   pub aged : number ≡ 0 → Aged claims (getD claims₀ 3584 0)

@@ -5,11 +5,12 @@ use mathlib.Core.List.{List, foldl}
 use Prim.Native.Nat.{ℕ, zero, suc, _+_, _≤_, _<_}
 use lib.ListN.{length, getD, set, take, drop}
 use Rattle.semantics.specs.Program.{aAt, bAt}
+use Rattle.semantics.specs.Widths.{truncated}
 use Rattle.semantics.specs.Expressions.{exprValues}
 use Rattle.semantics.specs.Completion.{isAsg, stores, targetsApart, store}
 use Rattle.semantics.specs.Cycle.{newValues}
 use Rattle.player.specs.Begin.{stateOf}
-use Rattle.player.specs.Work.{Memo, KeptFrom}
+use Rattle.player.specs.Work.{Memo, KeptFrom, maskedBy}
 use Rattle.player.specs.Claims.{Claims, Aged}
 use Rattle.player.specs.Channels.{CycleOf, Paired, program, hasKind}
 
@@ -26,11 +27,16 @@ pub record Storing (exprs nodes values entries claims : List ℕ) : Type 0 where
 
 -- ---- the stores that are held among the claims
 
--- The values after the first n stores.
-abbrev pub putFirst : List ℕ → ℕ → List ℕ → List ℕ
-putFirst claims zero values = values
-putFirst claims (suc n) values =
-    set (putFirst claims n values) (getD claims (1536 + n) 0) (getD claims (2560 + n) 0)
+-- The values after the first n stores, where `keep` is what a variable keeps of a value.
+abbrev pub putFirst : (ℕ → ℕ → ℕ) → List ℕ → ℕ → List ℕ → List ℕ
+putFirst keep claims zero values = values
+putFirst keep claims (suc n) values =
+    let variable = getD claims (1536 + n) 0 in
+    set (putFirst keep claims n values) variable (keep variable (getD claims (2560 + n) 0))
+
+-- What store n comes to in its variable.
+abbrev pub storeAt : List ℕ → List ℕ → ℕ → ℕ
+storeAt work claims n = maskedBy work (getD claims (1536 + n) 0) (getD claims (2560 + n) 0)
 
 -- The values when the first n stores, whose old values are held, are taken back, the last of them first.
 abbrev pub takenBack : List ℕ → ℕ → List ℕ → List ℕ
@@ -55,7 +61,7 @@ pub record Exchanged (before claims : List ℕ) : Type 0 where
 pub record Pending {nodes entries : List ℕ} (x : CycleOf nodes entries) (values claims : List ℕ) : Type 0 where
   pub paired : Paired x claims
   pub fit : HeldFit values claims
-  pub right : (counts : List ℕ) → putFirst claims (getD claims 3585 0) values
+  pub right : (counts : List ℕ) → putFirst (truncated (x .widths)) claims (getD claims 3585 0) values
       ≡ newValues (program x) (stateOf values (x .marks) counts) entries
 
 -- The answer to question 9, with the right sides where it is yes. `before` and `claims₀` are the lists at the start.
@@ -71,7 +77,7 @@ pub record RightSides {nodes entries : List ℕ} (x : CycleOf nodes entries) (va
 -- The stores are made, in the values and in what `work` has of them, and the old values are held.
 pub record Stored (values before claims₀ : List ℕ) (changed : Bool) (values′ work claims : List ℕ) : Type 0 where
   pub size : length work ≡ length before
-  pub right : values′ ≡ putFirst claims₀ (getD claims₀ 3585 0) values
+  pub right : values′ ≡ putFirst (maskedBy before) claims₀ (getD claims₀ 3585 0) values
   pub sameLength : length values′ ≡ length values
   pub variables : (v : ℕ) → v < length values → getD work v 0 ≡ getD values′ v 0
   pub kept : KeptFrom 256 before work
@@ -93,7 +99,7 @@ pub record SidesTo {nodes entries : List ℕ} (x : CycleOf nodes entries) (value
     pub few : n ≤ k
     pub targets : (j : ℕ) → j < n → getD claims (1536 + j) 0 < length values
     pub rest : foldl (storeFrom x values) values entries
-        ≡ foldl (storeFrom x values) (putFirst claims n values) (drop k entries)
+        ≡ foldl (storeFrom x values) (putFirst (truncated (x .widths)) claims n values) (drop k entries)
 
 -- Node i is entry k, and those before it are done.
 pub record StoringTo (exprs nodes values entries : List ℕ) (n k i : ℕ) (claims : List ℕ) : Type 0 where

@@ -1,4 +1,4 @@
--- Question 6 as the code answers it: one pass over the nodes, with a table of how many children of each node are live,
+-- What question 6 asks of marks and counts as the code answers it: one pass over the nodes, with a table of how many children of each node are live,
 -- that is, have a marked leaf at or below them.
 use mathlib.Core.Path.{_≡_}
 use mathlib.Core.Bool.{Bool, cond, _&&_}
@@ -6,8 +6,7 @@ use mathlib.Core.List.{List}
 use Prim.Native.Nat.{ℕ, _+_, _≤_, _<_}
 use lib.Dec.{ltb}
 use lib.ListN.{length, getD, set}
-use Rattle.semantics.specs.Program.{Program, nodeCount, parentAt}
-use Rattle.semantics.specs.State.{State, wellFormed}
+use Rattle.semantics.specs.Program.{nodeCount, parentAt}
 use Rattle.semantics.specs.Facts.{NodesOk, liveFrom}
 
 -- Every node of the program is ok, and marks and counts have one element for each node.
@@ -16,10 +15,6 @@ pub record ListsFit (nodes marks counts : List ℕ) : Type 0 where
   pub nodesFit : nodeCount nodes ≤ 1024
   pub marksFit : length marks ≡ nodeCount nodes
   pub countsFit : length counts ≡ nodeCount nodes
-
--- The answer for every program and state that have these lists.
-pub record WellFormedAnswer (nodes marks counts : List ℕ) (r : Bool) : Type 0 where
-  pub right : (P : Program) (s : State) → P .nodes ≡ nodes → s .marks ≡ marks → s .counts ≡ counts → r ≡ wellFormed P s
 
 -- The table with node i added to its parent's number, where it holds a mark. Node 0 has no parent.
 abbrev pub addedToParent : List ℕ → ℕ → Bool → List ℕ → List ℕ

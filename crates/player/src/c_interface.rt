@@ -12,11 +12,11 @@ fn word_of(number: u16, item: u16) -> u32
 }
 
 #[no_mangle]
-pub extern "C" fn player_check(exprs: &[u16], nodes: &[u16], vars: u16, chans: u16) -> u32
-    ensures { λ r. ⌜ CheckAnswer (programOf (now (exprs .entry)) (now (nodes .entry)) vars chans)
+pub extern "C" fn player_check(exprs: &[u16], nodes: &[u16], widths: &[u16], vars: u16, chans: u16) -> u32
+    ensures { λ r. ⌜ CheckAnswer (programOf (now (exprs .entry)) (now (nodes .entry)) (now (widths .entry)) vars chans)
         (numberIn r) (itemIn r) ⌝ }
 {
-    let checked = program::check(exprs, nodes, vars, chans);
+    let checked = program::check(exprs, nodes, widths, vars, chans);
     word_of(checked.number, checked.item)
 }
 
@@ -24,17 +24,20 @@ pub extern "C" fn player_check(exprs: &[u16], nodes: &[u16], vars: u16, chans: u
 pub extern "C" fn player_begin(
     exprs: &[u16],
     nodes: &[u16],
+    widths: &[u16],
     vars: u16,
     chans: u16,
     values: &[u16],
     marks: &mut [u8],
     counts: &mut [u16],
 ) -> u32
-    ensures { λ r. ⌜ BeginAnswer (programOf (now (exprs .entry)) (now (nodes .entry)) vars chans)
+    ensures { λ r. ⌜ BeginAnswer (programOf (now (exprs .entry)) (now (nodes .entry)) (now (widths .entry)) vars chans)
         (stateOf (now (values .entry)) (now (marks .entry)) (now (counts .entry)))
         (numberIn r) (itemIn r) (now (marks .exit)) (now (counts .exit)) ⌝ }
 {
-    let answer = crate::begin(exprs, nodes, vars, chans, values, marks, counts);
+    let answer = crate::begin(
+        exprs, nodes, widths, vars, chans, values, marks, counts,
+    );
     word_of(answer.number, answer.item)
 }
 
@@ -48,6 +51,7 @@ fn word_of_run(number: u16, item: u16, worked: u16) -> u64
 pub extern "C" fn player_run(
     exprs: &[u16],
     nodes: &[u16],
+    widths: &[u16],
     vars: u16,
     chans: u16,
     values: &mut [u16],
@@ -56,7 +60,7 @@ pub extern "C" fn player_run(
     book: &[u16],
     cycles: u16,
 ) -> u64
-    ensures { λ r. ⌜ RunAnswer (programOf (now (exprs .entry)) (now (nodes .entry)) vars chans) cycles
+    ensures { λ r. ⌜ RunAnswer (programOf (now (exprs .entry)) (now (nodes .entry)) (now (widths .entry)) vars chans) cycles
         (stateOf (now (values .entry)) (now (marks .entry)) (now (counts .entry))) (now (book .entry))
         (numberIn r) (itemOfRunIn r) (workedIn r)
         (stateOf (now (values .exit)) (now (marks .exit)) (now (counts .exit))) ⌝ }
@@ -64,6 +68,7 @@ pub extern "C" fn player_run(
     let ran = crate::run(
         exprs,
         nodes,
+        widths,
         vars,
         chans,
         values,

@@ -89,7 +89,8 @@ pub fn pair_entries(
     entries: &[u16],
     claims: &mut [u16; CLAIMS],
 ) -> usize
-    requires { ⌜ ((exprs : List ℕ) × (vars : ℕ) × (chans : ℕ) × Accepted (programOf exprs (now nodes) vars chans))
+    requires { ⌜ ((exprs : List ℕ) × (widths : List ℕ) × (vars : ℕ) × (chans : ℕ)
+        × Accepted (programOf exprs (now nodes) widths vars chans))
         × (length (now marks) ≡ nodeCount (now nodes)) ⌝ }
     requires { ⌜ Fresh (now claims) ⌝ }
     ensures { λ r. ⌜ CrossedTo (now (nodes .entry)) (now (entries .entry)) (now (marks .entry)) (now (claims .entry)) r

@@ -47,13 +47,14 @@ fn ask(
     work: &mut [u16; WORK],
     claims: &mut [u16; CLAIMS],
 ) -> u16
-    requires { ⌜ ((values : List ℕ) × (counts : List ℕ) × CycleFrom (now exprs) (now nodes) values (now marks) counts (now entries)
-        × Carried (now exprs) (now nodes) values (now marks) (now work)) ⌝ }
+    requires { ⌜ ((values : List ℕ) × (counts : List ℕ)
+        × (x : CycleFrom (now exprs) (now nodes) values (now marks) counts (now entries))
+        × Carried (now exprs) (now nodes) (x .widths) values (now marks) (now work)) ⌝ }
     requires { ⌜ Fresh (now claims) ⌝ }
     ensures { λ r. ⌜ ((values counts : List ℕ)
         (x : CycleFrom (now (exprs .entry)) (now (nodes .entry)) values (now (marks .entry)) counts
         (now (entries .entry)))
-        → Carried (now (exprs .entry)) (now (nodes .entry)) values (now (marks .entry)) (now (work .entry))
+        → Carried (now (exprs .entry)) (now (nodes .entry)) (x .widths) values (now (marks .entry)) (now (work .entry))
         → AskAnswer x (now (claims .entry)) r (now (marks .exit)) (now (work .exit)) (now (claims .exit))) ⌝ }
 {
     let passed = channels::pair_entries(nodes, marks, entries, claims);
@@ -124,13 +125,15 @@ pub fn work_cycle(
     work: &mut [u16; WORK],
     claims: &mut [u16; CLAIMS],
 ) -> u16
-    requires { ⌜ ((vars : ℕ) × (chans : ℕ) × Runnable (programOf (now exprs) (now nodes) vars chans)
-        (stateOf (now values) (now marks) (now counts))) ⌝ }
-    requires { ⌜ Carried (now exprs) (now nodes) (now values) (now marks) (now work) ⌝ }
+    requires { ⌜ ((widths : List ℕ) × (vars : ℕ) × (chans : ℕ)
+        × Runnable (programOf (now exprs) (now nodes) widths vars chans) (stateOf (now values) (now marks) (now counts))
+        × Carried (now exprs) (now nodes) widths (now values) (now marks) (now work)) ⌝ }
     requires { ⌜ Fresh (now claims) ⌝ }
-    ensures { λ r. ⌜ ((vars chans : ℕ) → Runnable (programOf (now (exprs .entry)) (now (nodes .entry)) vars chans)
+    ensures { λ r. ⌜ ((widths : List ℕ) (vars chans : ℕ)
+        → Runnable (programOf (now (exprs .entry)) (now (nodes .entry)) widths vars chans)
         (stateOf (now (values .entry)) (now (marks .entry)) (now (counts .entry)))
-        → WorkedCycle (programOf (now (exprs .entry)) (now (nodes .entry)) vars chans)
+        → Carried (now (exprs .entry)) (now (nodes .entry)) widths (now (values .entry)) (now (marks .entry)) (now (work .entry))
+        → WorkedCycle (programOf (now (exprs .entry)) (now (nodes .entry)) widths vars chans)
         (stateOf (now (values .entry)) (now (marks .entry)) (now (counts .entry))) (now (book .entry))
         (now (claims .entry)) r (stateOf (now (values .exit)) (now (marks .exit)) (now (counts .exit)))
         (now (work .exit)) (now (claims .exit))) ⌝ }

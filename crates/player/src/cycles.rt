@@ -29,17 +29,19 @@ fn stopped(number: u16, worked: u16) -> Ran
 pub fn work_cycles(
     exprs: &[u16],
     nodes: &[u16],
+    widths: &[u16],
     values: &mut [u16],
     marks: &mut [u8],
     counts: &mut [u16],
     book: &[u16],
     cycles: u16,
 ) -> Ran
-    requires { ⌜ ((vars : ℕ) × (chans : ℕ) × Runnable (programOf (now exprs) (now nodes) vars chans)
+    requires { ⌜ ((vars : ℕ) × (chans : ℕ) × Runnable (programOf (now exprs) (now nodes) (now widths) vars chans)
         (stateOf (now values) (now marks) (now counts))) ⌝ }
-    ensures { λ r. ⌜ ((vars chans : ℕ) → Runnable (programOf (now (exprs .entry)) (now (nodes .entry)) vars chans)
+    ensures { λ r. ⌜ ((vars chans : ℕ)
+        → Runnable (programOf (now (exprs .entry)) (now (nodes .entry)) (now (widths .entry)) vars chans)
         (stateOf (now (values .entry)) (now (marks .entry)) (now (counts .entry)))
-        → RunAnswer (programOf (now (exprs .entry)) (now (nodes .entry)) vars chans) cycles
+        → RunAnswer (programOf (now (exprs .entry)) (now (nodes .entry)) (now (widths .entry)) vars chans) cycles
         (stateOf (now (values .entry)) (now (marks .entry)) (now (counts .entry))) (now (book .entry))
         (r .number) (r .item) (r .worked) (stateOf (now (values .exit)) (now (marks .exit)) (now (counts .exit)))) ⌝ }
 {
@@ -47,7 +49,7 @@ pub fn work_cycles(
         return stopped(0, 0);
     }
     let mut work = [0u16; WORK];
-    start::fill(nodes, values, marks, &mut work);
+    start::fill(nodes, widths, values, marks, &mut work);
     let mut claims = [0u16; CLAIMS];
     let mut worked: u16 = 0;
     let mut read: usize = 0;

@@ -21,6 +21,7 @@ mod threads; // thread counts
 mod undo; // what question 10 takes back
 mod visits; // the walks of a cycle
 mod well_formed; // question 6
+mod widths; // the widths of the variables
 mod work; // what a run keeps beside the lent lists
 
 use cycles::work_cycles;
@@ -29,26 +30,28 @@ pub use program::Checked;
 pub use program::check;
 use root::enter_root;
 use well_formed::well_formed;
+use widths::values_in_range;
 ghost use Rattle.program.specs.Answer.{programOf};
 ghost use Rattle.player.specs.Begin.{stateOf, BeginAnswer};
 ghost use Rattle.player.specs.Run.{RunAnswer};
 
-// Begins a program with the values as given: asks questions 1 to 5 and 10, and where none is answered no, writes marks
-// and counts whole from entering node 0. What stood in them is not read.
+// Begins a program with the values as given: asks what check asks, question 5, question 6 of the values alone, and 10. Where
+// none is answered no, it writes marks and counts whole from entering node 0. What stood in them is not read.
 pub fn begin(
     exprs: &[u16],
     nodes: &[u16],
+    widths: &[u16],
     vars: u16,
     chans: u16,
     values: &[u16],
     marks: &mut [u8],
     counts: &mut [u16],
 ) -> Checked
-    ensures { λ r. ⌜ BeginAnswer (programOf (now (exprs .entry)) (now (nodes .entry)) vars chans)
+    ensures { λ r. ⌜ BeginAnswer (programOf (now (exprs .entry)) (now (nodes .entry)) (now (widths .entry)) vars chans)
         (stateOf (now (values .entry)) (now (marks .entry)) (now (counts .entry)))
         (r .number) (r .item) (now (marks .exit)) (now (counts .exit)) ⌝ }
 {
-    let checked = program::check(exprs, nodes, vars, chans);
+    let checked = program::check(exprs, nodes, widths, vars, chans);
     if checked.number != 0 {
         return checked;
     }
@@ -60,6 +63,9 @@ pub fn begin(
         nodes.len() / 5,
     ) {
         return Checked { number: 5, item: 0 };
+    }
+    if !values_in_range(widths, values) {
+        return Checked { number: 6, item: 0 };
     }
     if enter_root(exprs, nodes, values, marks, counts) {
         return Checked {
@@ -81,6 +87,7 @@ pub struct Ran {
 pub fn run(
     exprs: &[u16],
     nodes: &[u16],
+    widths: &[u16],
     vars: u16,
     chans: u16,
     values: &mut [u16],
@@ -89,11 +96,11 @@ pub fn run(
     book: &[u16],
     cycles: u16,
 ) -> Ran
-    ensures { λ r. ⌜ RunAnswer (programOf (now (exprs .entry)) (now (nodes .entry)) vars chans) cycles
+    ensures { λ r. ⌜ RunAnswer (programOf (now (exprs .entry)) (now (nodes .entry)) (now (widths .entry)) vars chans) cycles
         (stateOf (now (values .entry)) (now (marks .entry)) (now (counts .entry))) (now (book .entry))
         (r .number) (r .item) (r .worked) (stateOf (now (values .exit)) (now (marks .exit)) (now (counts .exit))) ⌝ }
 {
-    let checked = program::check(exprs, nodes, vars, chans);
+    let checked = program::check(exprs, nodes, widths, vars, chans);
     if checked.number != 0 {
         return Ran {
             number: checked.number,
@@ -114,12 +121,14 @@ pub fn run(
             worked: 0,
         };
     }
-    if !well_formed(nodes, marks, counts) {
+    if !well_formed(nodes, widths, values, marks, counts) {
         return Ran {
             number: 6,
             item: 0,
             worked: 0,
         };
     }
-    work_cycles(exprs, nodes, values, marks, counts, book, cycles)
+    work_cycles(
+        exprs, nodes, widths, values, marks, counts, book, cycles,
+    )
 }

@@ -9,7 +9,7 @@ ghost use Rattle.player.specs.Work.{Forgotten, Unworked};
 
 // No expression is worked at any moment above 0.
 fn forget_all(work: &mut [u16; WORK])
-    requires { ⌜ length (now work) ≡ 3331 ⌝ }
+    requires { ⌜ length (now work) ≡ 3587 ⌝ }
     ensures { λ _. ⌜ Forgotten (now (work .entry)) (now (work .exit)) 2304 ⌝ }
 {
     let mut i: usize = MOMENTS;
@@ -21,7 +21,7 @@ fn forget_all(work: &mut [u16; WORK])
 
 // A moment at which nothing is worked yet follows the present one.
 pub fn next_moment(work: &mut [u16; WORK])
-    requires { ⌜ length (now work) ≡ 3331 ⌝ }
+    requires { ⌜ length (now work) ≡ 3587 ⌝ }
     requires { ⌜ ((e : ℕ) → e < 1024 → getD (now work) (1280 + e) 0 ≤ getD (now work) 2304 0) ⌝ }
     ensures { λ _. ⌜ Unworked (now (work .entry)) (now (work .exit)) ⌝ }
 {

@@ -85,7 +85,7 @@ fn work_from(exprs: &[u16], work: &mut [u16; WORK], from: u16, e: u16) -> u16
 
 // The expressions from one up to e are worked at the present moment.
 fn note_from(work: &mut [u16; WORK], from: u16, e: u16)
-    requires { ⌜ (e < 1024) × (from ≤ e) × (length (now work) ≡ 3331) ⌝ }
+    requires { ⌜ (e < 1024) × (from ≤ e) × (length (now work) ≡ 3587) ⌝ }
     ensures { λ _. ⌜ NotedTo (now (work .entry)) (now (work .exit)) (e + 1) ⌝ }
 {
     let now = work[NOW];

@@ -6,6 +6,7 @@ use crate::work::LOOPED;
 use crate::work::WORK;
 use program::limits::NODES_MAX;
 ghost use mathlib.Core.Path.{_≡_};
+ghost use mathlib.Core.List.{List};
 ghost use Prim.Native.Nat.{ℕ};
 ghost use lib.ListN.{length};
 ghost use Rattle.semantics.specs.Program.{nodeCount};
@@ -22,10 +23,11 @@ pub fn enter_root(
     marks: &mut [u8],
     counts: &mut [u16],
 ) -> bool
-    requires { ⌜ ((chans : ℕ) × Accepted (programOf (now exprs) (now nodes) (length (now values)) chans)) ⌝ }
+    requires { ⌜ ((widths : List ℕ) × (chans : ℕ)
+        × Accepted (programOf (now exprs) (now nodes) widths (length (now values)) chans)) ⌝ }
     requires { ⌜ (length (now marks) ≡ nodeCount (now nodes)) × (length (now counts) ≡ nodeCount (now nodes)) ⌝ }
-    ensures { λ r. ⌜ ((vars chans : ℕ) → WrittenUnlessLooped
-        (rootWalk (programOf (now (exprs .entry)) (now (nodes .entry)) vars chans) (now (values .entry)))
+    ensures { λ r. ⌜ ((widths : List ℕ) (vars chans : ℕ) → WrittenUnlessLooped
+        (rootWalk (programOf (now (exprs .entry)) (now (nodes .entry)) widths vars chans) (now (values .entry)))
         (now (marks .entry)) (now (counts .entry)) r (now (marks .exit)) (now (counts .exit))) ⌝ }
 {
     let mut work = [0u16; WORK];

@@ -9,6 +9,7 @@ use crate::claims::TARGETS;
 use crate::claims::WRITERS;
 use crate::expressions;
 use crate::records;
+use crate::work;
 use crate::work::WORK;
 use program::VarId;
 use program::kinds::ASG;
@@ -25,7 +26,7 @@ ghost use Rattle.semantics.specs.Completion.{stores, source};
 ghost use Rattle.player.specs.Work.{Memo};
 ghost use Rattle.player.specs.Claims.{Claim, Aged};
 ghost use Rattle.player.specs.Channels.{PairedEntry, Unwritten, program};
-ghost use Rattle.player.specs.Stores.{targetAt, takenBack, HeldFit, Storing, StoringTo, EntryWorked, RightSides, Stored};
+ghost use Rattle.player.specs.Stores.{targetAt, storeAt, takenBack, HeldFit, Storing, StoringTo, EntryWorked, RightSides, Stored};
 
 // Whether node i, a marked one, stores: an ASG, or an IN that an OUT is marked for.
 fn stores(nodes: &[u16], claims: &[u16; CLAIMS], i: u16) -> bool
@@ -166,21 +167,22 @@ fn held_value(claims: &[u16; CLAIMS], n: u16) -> u16
     claims[HELD + (n as usize)]
 }
 
-// The one place that stores: store n, whose old value is held from then on. Whether the value changed.
+// The one place that stores: store n, of whose value the variable keeps as many bits as it has. Its old value is held
+// from then on. Whether the value changed.
 fn store_one(values: &mut [u16], work: &mut [u16; WORK], claims: &mut [u16; CLAIMS], n: u16) -> bool
     requires { ⌜ (n < 1024) × (getD (now claims) (1536 + n) 0 < length (now values))
         × (getD (now claims) (1536 + n) 0 < 256) ⌝ }
     ensures { λ r. ⌜ r ≡ not (eqb (getD (now (values .entry)) (getD (now (claims .entry)) (1536 + n) 0) 0)
-        (getD (now (claims .entry)) (2560 + n) 0)) ⌝ }
+        (storeAt (now (work .entry)) (now (claims .entry)) n)) ⌝ }
     ensures { λ _. ⌜ now (values .exit) ≡ set (now (values .entry)) (getD (now (claims .entry)) (1536 + n) 0)
-        (getD (now (claims .entry)) (2560 + n) 0) ⌝ }
+        (storeAt (now (work .entry)) (now (claims .entry)) n) ⌝ }
     ensures { λ _. ⌜ now (work .exit) ≡ set (now (work .entry)) (getD (now (claims .entry)) (1536 + n) 0)
-        (getD (now (claims .entry)) (2560 + n) 0) ⌝ }
+        (storeAt (now (work .entry)) (now (claims .entry)) n) ⌝ }
     ensures { λ _. ⌜ now (claims .exit) ≡ set (now (claims .entry)) (2560 + n)
         (getD (now (values .entry)) (getD (now (claims .entry)) (1536 + n) 0) 0) ⌝ }
 {
     let variable = held_target(claims, n);
-    let value = held_value(claims, n);
+    let value = work::kept(work, variable, held_value(claims, n));
     let at = variable.0 as usize;
     let old = values[at];
     values[at] = value;
@@ -192,7 +194,7 @@ fn store_one(values: &mut [u16], work: &mut [u16; WORK], claims: &mut [u16; CLAI
 // All stores of the cycle. Whether any value changed.
 pub fn store_all(values: &mut [u16], work: &mut [u16; WORK], claims: &mut [u16; CLAIMS]) -> bool
     requires { ⌜ HeldFit (now values) (now claims) ⌝ }
-    requires { ⌜ (length (now work) ≡ 3331)
+    requires { ⌜ (length (now work) ≡ 3587)
         × ((v : ℕ) → v < length (now values) → getD (now work) v 0 ≡ getD (now values) v 0) ⌝ }
     ensures { λ r. ⌜ Stored (now (values .entry)) (now (work .entry)) (now (claims .entry)) r (now (values .exit))
         (now (work .exit)) (now (claims .exit)) ⌝ }

@@ -1,5 +1,7 @@
-// Question 6, is the state well formed, in one pass from the last node to the first. The table `live` has for
-// each node the number of its live children, those that hold a mark: their numbers are higher, so they are counted first.
+// Question 6, is the state well formed: the values are in range, and marks and counts are right, in one pass from the
+// last node to the first. The table `live` has for each node the number of its live children, those that hold a mark:
+// their numbers are higher, so they are counted first.
+use crate::widths::values_in_range;
 use program::kinds::ASG;
 use program::kinds::DLY;
 use program::kinds::IF;
@@ -10,10 +12,17 @@ use program::kinds::WHL;
 use program::limits::NODES_MAX;
 use program::words;
 ghost use mathlib.Core.Path.{_≡_};
+ghost use mathlib.Core.List.{List};
+ghost use Prim.Native.Nat.{ℕ, _≤_};
+ghost use lib.ListN.{length};
 ghost use Rattle.semantics.specs.Numbers.{below, every};
 ghost use Rattle.semantics.specs.Program.{kindOf, nodeCount};
+ghost use Rattle.semantics.specs.State.{controlFormed, wellFormed};
 ghost use Rattle.semantics.specs.Facts.{locallyOk, nodeWellFormed};
-ghost use Rattle.player.specs.WellFormed.{ListsFit, WellFormedAnswer, addedToParent, ParentFits, LiveTable};
+ghost use Rattle.program.specs.Answer.{programOf};
+ghost use Rattle.player.specs.Begin.{stateOf};
+ghost use Rattle.player.specs.Work.{EachWidth};
+ghost use Rattle.player.specs.WellFormed.{ListsFit, addedToParent, ParentFits, LiveTable};
 
 // What question 6 asks of one node, of whose children `live` have a marked leaf at or below them.
 fn node_well_formed(kind: u16, mark: u8, count: u16, live: u16) -> bool
@@ -60,11 +69,22 @@ fn nodes_well_formed(nodes: &[u16], marks: &[u8], counts: &[u16], live: &mut [u1
     true
 }
 
-// Question 6 of a state whose lists fit a program whose every node is ok.
-pub fn well_formed(nodes: &[u16], marks: &[u8], counts: &[u16]) -> bool
+// What question 6 asks of marks and counts, where they fit a program whose every node is ok.
+fn control_formed(nodes: &[u16], marks: &[u8], counts: &[u16]) -> bool
     requires { ⌜ ListsFit (now nodes) (now marks) (now counts) ⌝ }
-    ensures { λ r. ⌜ WellFormedAnswer (now (nodes .entry)) (now (marks .entry)) (now (counts .entry)) r ⌝ }
+    ensures { λ r. ⌜ r ≡ controlFormed (now (nodes .entry)) (now (marks .entry)) (now (counts .entry)) ⌝ }
 {
     let mut live = [0u16; NODES_MAX];
     nodes_well_formed(nodes, marks, counts, &mut live)
+}
+
+// Question 6 of a state whose lists fit an accepted program.
+pub fn well_formed(nodes: &[u16], widths: &[u16], values: &[u16], marks: &[u8], counts: &[u16]) -> bool
+    requires { ⌜ ListsFit (now nodes) (now marks) (now counts) ⌝ }
+    requires { ⌜ (length (now widths) ≡ length (now values)) × (length (now values) ≤ 256) × EachWidth (now widths) ⌝ }
+    ensures { λ r. ⌜ ((exprs : List ℕ) (vars chans : ℕ)
+        → r ≡ wellFormed (programOf exprs (now (nodes .entry)) (now (widths .entry)) vars chans)
+        (stateOf (now (values .entry)) (now (marks .entry)) (now (counts .entry)))) ⌝ }
+{
+    values_in_range(widths, values) & control_formed(nodes, marks, counts)
 }

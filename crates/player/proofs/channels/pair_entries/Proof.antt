@@ -71,13 +71,13 @@ inside c =
 in-inside : (c : tie.Else1 Inv-loop μ-loop) → hasKind (start c .args .nodes .now) isIn (entry c) ≡ true
     → aAt (start c .args .nodes .now) (entry c) < 256
 in-inside c k =
-    let (_, _, _, ok) = start c .pre .0 .0 in
+    let (_, _, _, _, ok) = start c .pre .0 .0 in
     lt-of-lt-of-le (node-in-channel ok (entry c) (inside c) k) (ok .sizes .channelsFit)
 
 out-inside : (c : tie.Else1 Inv-loop μ-loop) → hasKind (start c .args .nodes .now) isOut (entry c) ≡ true
     → aAt (start c .args .nodes .now) (entry c) < 256
 out-inside c k =
-    let (_, _, _, ok) = start c .pre .0 .0 in
+    let (_, _, _, _, ok) = start c .pre .0 .0 in
     lt-of-lt-of-le (node-out-channel ok (entry c) (inside c) k) (ok .sizes .channelsFit)
 
 pair-one-requires : tie.Need-pair-one-requires Inv-loop μ-loop

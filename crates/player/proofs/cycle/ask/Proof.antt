@@ -35,7 +35,7 @@ pair-entries-requires : tie.Need-pair-entries-requires
 pair-entries-requires c κs =
     let begin = c .before .before .before .before .before .before in
     let x = begin .pre .0 .2 in
-    (((begin .args .exprs .now, x .variables, x .channels, x .accepted), x .fit .marks), begin .pre .1)
+    (((begin .args .exprs .now, x .widths, x .variables, x .channels, x .accepted), x .fit .marks), begin .pre .1)
 
 refusal-requires : tie.Need-refusal-requires
 refusal-requires c κs =

@@ -14,6 +14,7 @@ use Rattle.program.specs.Answer.{programOf}
 use Rattle.player.specs.Begin.{stateOf}
 use Rattle.player.specs.Claims.{Aged}
 use Rattle.player.specs.Cycle.{Runnable, Carried, CycleAnswer, WorkedCycle}
+use Rattle.player.proofs.MaskLaws.{each-width}
 use Rattle.player.proofs.StampLaws.{aged-first, stamp-set, fresh-next}
 use Rattle.player.proofs.PartLaws.{part-from}
 use Rattle.player.proofs.RunningLaws.{Progress, none-worked}
@@ -22,16 +23,16 @@ use Rattle.player.proofs.cycles.work_cycles.Statement.{statement}
 use Rattle.player.proofs.cycles.work_cycles.Tie as tie
 
 abbrev Inv-loop : tie.InvT-loop
-Inv-loop exprs nodes values₀ marks₀ counts₀ book cycles work₀ claims₀ worked₀ read₀ values marks counts work claims
+Inv-loop exprs nodes widths values₀ marks₀ counts₀ book cycles work₀ claims₀ worked₀ read₀ values marks counts work claims
     worked read =
-    ((vars chans : ℕ) → Runnable (programOf exprs nodes vars chans) (stateOf values₀ marks₀ counts₀)
-    → Progress (programOf exprs nodes vars chans) cycles (stateOf values₀ marks₀ counts₀) book
+    ((vars chans : ℕ) → Runnable (programOf exprs nodes widths vars chans) (stateOf values₀ marks₀ counts₀)
+    → Progress (programOf exprs nodes widths vars chans) cycles (stateOf values₀ marks₀ counts₀) book
     (stateOf values marks counts) worked read)
-    × (read ≤ length book) × Carried exprs nodes values marks work × Aged claims worked
+    × (read ≤ length book) × Carried exprs nodes widths values marks work × Aged claims worked
     × (length values ≡ length values₀) × (length marks ≡ length marks₀) × (length counts ≡ length counts₀)
 
 abbrev μ-loop : tie.MeasureT-loop
-μ-loop exprs nodes values₀ marks₀ counts₀ book cycles work₀ claims₀ worked₀ read₀ values marks counts work claims
+μ-loop exprs nodes widths values₀ marks₀ counts₀ book cycles work₀ claims₀ worked₀ read₀ values marks counts work claims
     worked read =
     cycles - worked
 
@@ -49,10 +50,13 @@ returns c =
 fill-requires : tie.Need-fill-requires Inv-loop μ-loop
 fill-requires c κs =
     let s = c .before .before .before .before .before .before .before .before .before .before in
-    let P = programOf (s .args .exprs .now) (s .args .nodes .now) (s .pre .0) (s .pre .1) in
-    let sizes = accepted P (s .pre .2 .accepted) .sizes in
-    let fit = fits-lengths P _ (s .pre .2 .ready .fit) in
-    ((sizes .nodesFit, omega (arith, fit .values, sizes .variablesFit), omega (arith, fit .marks, sizes .nodesFit)), refl)
+    let P = programOf (s .args .exprs .now) (s .args .nodes .now) (s .args .widths .now) (s .pre .0) (s .pre .1) in
+    let a = accepted P (s .pre .2 .accepted) in
+    let sizes = a .sizes in
+    let fit = fits-lengths P _ (s .pre .2 .ready .fit) in (
+      (sizes .nodesFit, omega (arith, fit .values, sizes .variablesFit), omega (arith, fit .marks, sizes .nodesFit)),
+      ((omega (arith, a .widthsFit .asMany, sizes .variablesFit), each-width P (a .widthsFit)), refl),
+    )
 
 loop-holds : tie.Need-loop-holds Inv-loop μ-loop
 loop-holds c = (λ vars chans r. none-worked r, zero-le, c .fill .ensures _, aged-first, refl, refl, refl)
@@ -80,7 +84,8 @@ work-cycle-requires c κs =
     let t = c .before .before .before .before .before .before .before in
     let l = looped t .loop in
     let r = start t .pre in
-    ((r .0, r .1, l .inv .0 (r .0) (r .1) (r .2) .runnable), (l .inv .2, fresh-next (l .inv .3)))
+    let a = start t .args in
+    ((a .widths .now, r .0, r .1, l .inv .0 (r .0) (r .1) (r .2) .runnable, l .inv .2), fresh-next (l .inv .3))
 
 -- ---- the cycle is worked or refused
 
@@ -93,7 +98,7 @@ left w =
     stateOf (lists .0) (lists .1 .0) (lists .1 .1 .0)
 
 abbrev program : tie.After-work-cycle Inv-loop μ-loop → ℕ → ℕ → Program
-program w vars chans = let a = start (called w) .args in programOf (a .exprs .now) (a .nodes .now) vars chans
+program w vars chans = let a = start (called w) .args in programOf (a .exprs .now) (a .nodes .now) (a .widths .now) vars chans
 
 abbrev Asked : tie.After-work-cycle Inv-loop μ-loop → ℕ → ℕ → Type 0
 Asked w vars chans =
@@ -108,7 +113,7 @@ worked-cycle : (w : tie.After-work-cycle Inv-loop μ-loop) (vars chans : ℕ) �
 worked-cycle w vars chans r =
     let l = looped (called w) .loop in
     rw (part-from (start (called w) .args .book .now) (l .read)) at
-    (w .work-cycle .ensures vars chans (l .inv .0 vars chans r .runnable))
+    (w .work-cycle .ensures (start (called w) .args .widths .now) vars chans (l .inv .0 vars chans r .runnable) (l .inv .2))
 
 next : (w : tie.After-work-cycle Inv-loop μ-loop) → w .work-cycle .result ≡ 0 → (vars chans : ℕ) → Asked w vars chans
     → let t = called w in
@@ -148,7 +153,7 @@ read-inside c =
 add-read : tie.Need-add-read Inv-loop μ-loop
 add-read c =
     let w = c .before .before .before .before .before .before .before in
-    omega (arith, read-inside c, start (called w) .good .1 .1 .1 .1 .1 .0 .0)
+    omega (arith, read-inside c, start (called w) .good .1 .1 .1 .1 .1 .1 .0 .0)
 
 add-worked : tie.Need-add-worked Inv-loop μ-loop
 add-worked c =

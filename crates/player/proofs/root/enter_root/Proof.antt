@@ -20,9 +20,9 @@ use Rattle.player.proofs.root.enter_root.Tie as tie
 -- ---- before node 0 is entered
 walkable : (s : tie.Start) → Walkable (s .args .exprs .now) (s .args .nodes .now) (s .args .values .now)
 walkable s =
-    let (chans, accepted) = s .pre .0 in
+    let (widths, chans, accepted) = s .pre .0 in
     let values = s .args .values .now in
-    accepted-walkable (programOf (s .args .exprs .now) (s .args .nodes .now) (length values) chans) values accepted refl
+    accepted-walkable (programOf (s .args .exprs .now) (s .args .nodes .now) widths (length values) chans) values accepted refl
 
 inside : (s : tie.Start) → length (s .args .marks .now) ≤ 1024
 inside s = omega (arith, s .pre .1 .0, walkable s .nodesFit)
@@ -55,7 +55,7 @@ walking c =
 enter-node-requires : tie.Need-enter-node-requires
 enter-node-requires c κs =
     let s = atStart c in
-    let (_, accepted) = s .pre .0 in
+    let (_, _, accepted) = s .pre .0 in
     ((s .args .values .now, walking c), accepted .sizes .someNode)
 
 -- ---- node 0 is entered
@@ -81,20 +81,21 @@ counts-back : (c : tie.After-new-counts2)
 counts-back c = returned _ (newCounts c) _ (inside (entry c)) (c .before .before .enter-node .kept .1 .1 .1 .1 .0)
 
 -- they are those of the rules' begin
-walked : (c : tie.After-new-counts2) (vars chans : ℕ) → let s = entry c in
-    rootWalk (programOf (s .args .exprs .now) (s .args .nodes .now) vars chans) (s .args .values .now)
+walked : (c : tie.After-new-counts2) (widths : List ℕ) (vars chans : ℕ) → let s = entry c in
+    rootWalk (programOf (s .args .exprs .now) (s .args .nodes .now) widths vars chans) (s .args .values .now)
     ≡ walkIn (newMarks c) (newCounts c) (newWork c)
-walked c vars chans =
+walked c widths vars chans =
     let lent = c .before .before .before in
     let s = entry c in
-    let (_, accepted) = s .pre .0 in
+    let (_, _, accepted) = s .pre .0 in
     let filled = lent .before .before .before .fill-values in
-    root-walked (s .args .exprs .now) (s .args .nodes .now) (s .args .values .now) (filled .last .1 .0) vars chans
+    root-walked (s .args .exprs .now) (s .args .nodes .now) widths (s .args .values .now) (filled .last .1 .0) vars chans
     (c .before .before .enter-node .result) (newMarks c) (newCounts c) (newWork c) (accepted .sizes .someNode)
     (filled .ensures .1) (rw (blank s) at (c .before .before .enter-node .ensures (s .args .values .now) (walking lent)))
 
 returns : tie.Need-returns
-returns c vars chans = nothing-written (newWork (c .before)) (walked (c .before) vars chans) _ _ (c .if1 .taken)
+returns c widths vars chans =
+    nothing-written (newWork (c .before)) (walked (c .before) widths vars chans) _ _ (c .if1 .taken)
 
 array-share-prefix-new-marks : tie.Need-array-share-prefix-new-marks
 array-share-prefix-new-marks c = marks-back (c .before) .inside
@@ -118,13 +119,13 @@ copy-words-requires c κs =
     sym (counts-back entered .backLength) ∙ fit .0 ∙ sym (fit .1)
 
 returns-2 : tie.Need-returns-2
-returns-2 c vars chans =
+returns-2 c widths vars chans =
     let copied = c .before .before .before .before .before .before .before in
     let branch = copied .before .before .before in
     let entered = branch .before in
     let marks = copied .copy-bytes .ensures ∙ marks-back entered .back in
     let counts = c .before .before .copy-words .ensures ∙ counts-back entered .back in
-    rw (marks, counts) (both-written (newWork entered) (walked entered vars chans) _ _ (branch .if1 .left))
+    rw (marks, counts) (both-written (newWork entered) (walked entered widths vars chans) _ _ (branch .if1 .left))
 
 pub enter-root-spec : {M : Type 1} → statement M
 enter-root-spec =
