@@ -150,6 +150,11 @@ oneBitInput =
     programOf (expr 1 1 0 ++ expr 0 4 0 ++ expr 2 0 1)
     (node 2 65535 4 0 0 ++ node 5 0 2 0 2 ++ node 4 0 3 0 0 ++ node 3 0 4 1 2) (1 ∷ 16 ∷ []) 2 1
 
+-- WHL v0 {v0:=v0+1}, with v0 of 1 bit
+abbrev pub oneBitLoop : Program
+oneBitLoop =
+    programOf (expr 1 0 0 ++ expr 0 1 0 ++ expr 2 0 1) (node 7 65535 2 0 0 ++ node 3 0 2 0 2) (1 ∷ []) 1 0
+
 -- ---- the list
 
 abbrev pub swapBegun : Answer
@@ -244,6 +249,10 @@ samples =
     ∷ paper oneBitInput (0 ∷ 3 ∷ []) 5 (1 ∷ 2 ∷ 3 ∷ [])
     (gives 0 0 (0 ∷ 3 ∷ []) (0 ∷ 1 ∷ 1 ∷ 1 ∷ []) (3 ∷ 0 ∷ 0 ∷ 0 ∷ []))
     (gives 0 1 (1 ∷ 7 ∷ []) (0 ∷ 0 ∷ 0 ∷ 0 ∷ []) (0 ∷ 0 ∷ 0 ∷ 0 ∷ []))
+    -- a loop's condition reads what its variable kept: 2 is stored as 0 in 1 bit, and the loop ends
+    ∷ paper oneBitLoop (1 ∷ []) 5 (1 ∷ [])
+    (gives 0 0 (1 ∷ []) (0 ∷ 1 ∷ []) (0 ∷ 0 ∷ []))
+    (gives 0 1 (0 ∷ []) (0 ∷ 0 ∷ []) (0 ∷ 0 ∷ []))
     -- a value too wide: begin and run refuse with 6
     ∷ paper (counter (12 ∷ [])) (4096 ∷ []) 3 (1 ∷ 1 ∷ 1 ∷ []) (counterRefused 6 4096) (counterRefused 6 4096)
     -- a width of 0, one of 17, and two widths for one variable
