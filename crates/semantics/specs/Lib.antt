@@ -24,3 +24,5 @@ pub mod Calls
 pub mod Samples
 -- no rules: the questions as facts, for contracts
 pub mod Facts
+-- no rules: the rules without widths, for the theorem on old papers
+pub mod Plain
