@@ -8,7 +8,8 @@ pub mod Tree
 pub mod Walks
 -- entries, stores and runs, where a book first goes wrong, and the sample papers
 pub mod Run
--- the order of the entries does not show: one cycle, all cycles, the order rule and the theorems beside it
+-- the order of the entries does not show: one cycle, all cycles, the order rule and the theorems beside it, among them
+-- those on widths
 pub mod Order
 -- what is proved, on a page
 pub mod Main

@@ -5,19 +5,24 @@ use mathlib.Core.Bool.{true}
 use mathlib.Core.List.{List}
 use mathlib.Core.Logic.{_↔_, _≢_}
 use mathlib.Core.Option.{none, some}
-use Prim.Native.Nat.{ℕ, _+_, _≤_, _<_}
-use lib.ListN.{take}
+use Prim.Native.Nat.{ℕ, _+_, _%_, _^_, _≤_, _<_}
+use lib.ListN.{length, getD, take, replicate}
 use Rattle.semantics.specs.Program.{Program}
 use Rattle.semantics.specs.Check.{checkNumber}
+use Rattle.semantics.specs.Widths.{widthAt}
 use Rattle.semantics.specs.State.{State, lengthsOk, wellFormed}
+use Rattle.semantics.specs.Completion.{stores, target, source, store}
 use Rattle.semantics.specs.Facts.{Ready}
 use Rattle.semantics.specs.Run.{run}
 use Rattle.semantics.specs.Calls.{beginAnswer, runAnswer}
 use Rattle.semantics.specs.Book.{entriesAsked, firstWrong}
+use Rattle.semantics.specs.Plain.{areWords, plainCheckNumber, plainBeginAnswer, plainRunAnswer}
 use Rattle.semantics.specs.Samples.{samples, allPass}
 use Rattle.semantics.proofs.Run.SamplesPass
 use Rattle.semantics.proofs.Order.OrderRule
 use Rattle.semantics.proofs.Order.RunTheorems
+use Rattle.semantics.proofs.Order.VariableWidths
+use Rattle.semantics.proofs.Order.OldPapers
 
 -- The order rule. For an accepted program and a state that questions 5 and 6 let by, two books give equal answers of
 -- run (number, cycles worked and the three lists) exactly when both first go wrong at the same cycle, or neither goes
@@ -68,6 +73,30 @@ pub run-over : (P : Program) → checkNumber P ≡ 0 → (s : State) → Ready P
     → (n m : ℕ) (book : List ℕ) → runAnswer P n s book .worked < n
     → runAnswer P (n + m) s book ≡ runAnswer P n s book
 run-over = RunTheorems.run-over
+
+-- One store. Where leaf i stores the value of expression e, its variable then holds that value modulo two to the power
+-- of its width, and every other variable what it held.
+pub store-modulo : (P : Program) (marks table values : List ℕ) (i e : ℕ)
+    → stores P marks i ≡ true → source P marks i ≡ some e → target P marks i < length values
+    → (let v = target P marks i in let after = store P marks table values i in
+    (getD after v 0 ≡ getD table e 0 % 2 ^ widthAt (P .widths) v)
+    × ((w : ℕ) → w ≢ v → getD after w 0 ≡ getD values w 0))
+store-modulo = VariableWidths.store-modulo
+
+-- For an accepted program and a state that questions 5 and 6 let by, after any number of cycles by any book every value
+-- is below two to the power of its variable's width.
+pub variable-widths : (P : Program) → checkNumber P ≡ 0 → (s : State) → Ready P s
+    → (n : ℕ) (book : List ℕ) (v : ℕ) → v < P .variables
+    → getD (runAnswer P n s book .state .values) v 0 < 2 ^ widthAt (P .widths) v
+variable-widths = VariableWidths.variable-widths
+
+-- Old papers keep their answers. Where every variable is 16 bits wide, and the words of the expressions and the values
+-- are words, check, begin and run answer as the rules without widths do, whether they refuse or not.
+pub old-papers : (P : Program) → P .widths ≡ replicate (P .variables) 16 → areWords (P .exprs) ≡ true
+    → (s : State) → areWords (s .values) ≡ true
+    → (checkNumber P ≡ plainCheckNumber P) × (beginAnswer P s ≡ plainBeginAnswer P s)
+    × ((n : ℕ) (book : List ℕ) → runAnswer P n s book ≡ plainRunAnswer P n s book)
+old-papers = OldPapers.old-papers
 
 -- Check, begin and run answer every sample paper of specs/Samples as written there.
 pub samples-pass : allPass samples ≡ true

@@ -1,5 +1,6 @@
 -- The order of the entries does not show: two due leaves commute in the tree, so the walks and the stores of a cycle
--- come to the same lists in every order, and so do all cycles of a run.
+-- come to the same lists in every order, and so do all cycles of a run. Beside it, what widths do: values stay in range,
+-- and papers from before them keep their answers.
 pub mod TreeCommute
 pub mod Load
 pub mod AnyOrder
@@ -10,3 +11,5 @@ pub mod CycleOrder
 pub mod OrderOverCycles
 pub mod OrderRule
 pub mod RunTheorems
+pub mod VariableWidths
+pub mod OldPapers

@@ -3,7 +3,6 @@ use mathlib.Core.Path.{_≡_, refl, sym, _∙_}
 use mathlib.Core.Bool.{Bool, true, false, cond, not, _&&_, _||_, true≢false}
 use mathlib.Core.Logic.{_⊎_, inl, inr, _↔_}
 use mathlib.Core.List.{List, [], _∷_, foldl}
-use mathlib.Core.Logic.{_⊎_, inl, inr}
 use Prim.Native.Nat.{ℕ, _≤_, _<_}
 use lib.Dec.{ltb}
 use borrow.Author.Tests.{ltb-true, ltb-false}
@@ -74,6 +73,11 @@ true-or-false false = inr refl
 pub cond-at : {X : Type 0} (F : X → Type 0) (b : Bool) {x y : X} → F x → F y → F (cond b x y)
 cond-at F true p q = p
 cond-at F false p q = q
+
+-- what is chosen where the test holds may be changed for what equals it there
+pub cond-when : {X : Type 0} (b : Bool) {x y : X} (z : X) → (b ≡ true → x ≡ y) → cond b x z ≡ cond b y z
+cond-when true z h = h refl
+cond-when false z h = refl
 
 pub lt-or-le : (a b : ℕ) → (a < b) ⊎ (b ≤ a)
 lt-or-le a b = pick (ltb a b) refl

@@ -52,6 +52,12 @@ firstNo-append (p ∷ ps) qs n = pick (p .yes) (firstNo-append ps qs (and-right 
     pick true rec = rec
     pick false rec = rw (not-true (eqb (p .number) 0) (and-left (not (eqb (p .number) 0)) _ n))
 
+-- two such lists have one number where their parts have
+pub firstNo-alike : (ps qs rs ts : List Question) → numbered ps ≡ true → numbered rs ≡ true
+    → firstNo ps ≡ firstNo rs → firstNo qs ≡ firstNo ts → firstNo (ps ++ qs) ≡ firstNo (rs ++ ts)
+firstNo-alike ps qs rs ts n m p q =
+    firstNo-append ps qs n ∙ (λ i. cond (eqb (p i) 0) (q i) (p i)) ∙ sym (firstNo-append rs ts m)
+
 -- ---- question 1
 pub sized-limits : (P : Program) → sizesOk P ≡ true → Sized P
 unfolding sizesOk

@@ -5,7 +5,6 @@ use mathlib.Core.Path.{_≡_, refl, sym, ap, _∙_, subst}
 use mathlib.Core.Bool.{Bool, true, false, cond}
 use mathlib.Core.List.{List, [], _∷_}
 use Prim.Native.Nat.{ℕ}
-use native.Mathlib.Omega.{arith}
 use lib.Dec.{eqb}
 use lib.ListN.{length}
 use borrow.Author.Tests.{eqb-true, eq-eqb}
@@ -19,7 +18,7 @@ use Rattle.semantics.specs.State.{State, lengthsOk, controlFormed}
 use Rattle.semantics.specs.Walk.{leave}
 use Rattle.semantics.specs.Completion.{waits, channelsFree, targetsApart}
 use Rattle.semantics.specs.Cycle.{areActive, answered, newValues, visit, walked, cycleQuestions, cycle}
-use Rattle.semantics.specs.Cycle.Outcome.{refused, advancesTo}
+use Rattle.semantics.specs.Cycle.Outcome.{advancesTo}
 use Rattle.semantics.specs.Facts.{LengthsFit, Ready}
 use Rattle.semantics.proofs.Lists.Logic.{conjuncts, both}
 use Rattle.semantics.proofs.Tree.TreeOfList.{Stands, accepted-tree}
@@ -27,6 +26,7 @@ use Rattle.semantics.proofs.Walks.LeaveFrames.{accepted-leave}
 use Rattle.semantics.proofs.Tree.TreeWellFormed.{treeWellFormed}
 use Rattle.semantics.proofs.Tree.WellFormedOnTree.{controlFormed-on-tree}
 use Rattle.semantics.proofs.Run.CrossOut.{crossOut, active-crossOut}
+use Rattle.semantics.proofs.Run.RunLaws.{answered-state}
 use Rattle.semantics.proofs.Order.WalksOnTree.{FormedOn, cycle-any-order, cycle-formed}
 use Rattle.semantics.proofs.Order.Stores.{newValues-any-order, newValues-length}
 use Rattle.semantics.proofs.Order.InRange.{values-in-range, control-formed, well-formed, newValues-in-range}
@@ -121,14 +121,7 @@ module _ (P : Program) (accepted : checkNumber P ≡ 0) where
         → Ready P s′
     unfolding cycle
     leaves-ready s′ es h e =
-        pick (number (newValues P s es) es) (leaves (newValues P s es) es) e
+        let values = newValues P s es in
+        subst (Ready P) (answered-state (number values es) (leaves values es) s′ e)
         (formed-ready _ (newValues-length P s es ∙ fits-lengths P s (ready .fit) .values)
-        (newValues-in-range P s es (values-in-range P s (ready .formed)))
-        (walked-formed (newValues P s es) es h))
-      where
-        pick : (q : ℕ) (t : State) → answered q t ≡ advancesTo s′ → Ready P t → Ready P s′
-        pick q t x r = at (eqb q 0) x
-          where
-            at : (b : Bool) → cond b (advancesTo t) (refused q) ≡ advancesTo s′ → Ready P s′
-            at true y = let z : t ≡ s′ = cc in subst (Ready P) z r
-            at false y = let z : _≡_ {A = ℕ} 0 1 = cc in absurd (omega arith)
+        (newValues-in-range P s es (values-in-range P s (ready .formed))) (walked-formed values es h))

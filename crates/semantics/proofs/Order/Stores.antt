@@ -78,7 +78,7 @@ module _ (P : Program) (marks : List ℕ) where
   -- ---- the stores of two nodes, and of all entries
 
   module _ (table : List ℕ) where
-    store-length : (values : List ℕ) (i : ℕ) → length (store P marks table values i) ≡ length values
+    pub store-length : (values : List ℕ) (i : ℕ) → length (store P marks table values i) ≡ length values
     unfolding store
     store-length values i = pick (stores P marks i)
       where

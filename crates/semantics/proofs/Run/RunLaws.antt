@@ -22,6 +22,15 @@ use Rattle.semantics.specs.Run.{Run, run, stopped, oneMore, nextEntries,
 use Rattle.semantics.specs.Calls.{Answer}
 use Rattle.semantics.specs.Book.{comesTo, entriesAsked}
 
+-- ---- the state that a worked cycle leaves
+
+pub answered-state : (q : ℕ) (t s′ : State) → answered q t ≡ advancesTo s′ → t ≡ s′
+answered-state q t s′ = pick (eqb q 0)
+  where
+    pick : (b : Bool) → cond b (advancesTo t) (refused q) ≡ advancesTo s′ → t ≡ s′
+    pick true e = cc
+    pick false e = let z : _≡_ {A = ℕ} 0 1 = cc in absurd (omega arith)
+
 -- ---- the numbers of a refused cycle
 
 module _ (P : Program) (s : State) (es : List ℕ) where
