@@ -151,7 +151,7 @@ module _ (P : Program) (wide : P .widths ≡ replicate (P .variables) 16) where
           let n = of-words h .0 in
           range-in (P .widths) (s .values) (λ u l. rw (width-16 u (omega arith)) (v u))
 
-      -- question 11 is answered yes, and so is question 6 of the values, where question 5 is
+      -- question 11 is answered yes, and what follows question 5 counts only where that is answered yes
       same-number : (qs ps : List Question) → (lengthsOk P s ≡ true → firstNo qs ≡ firstNo ps)
           → firstNo (checkQuestions P ++ ask 5 (lengthsOk P s) ∷ qs)
           ≡ firstNo (plainCheckQuestions P ++ ask 5 (lengthsOk P s) ∷ ps)

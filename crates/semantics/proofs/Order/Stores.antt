@@ -8,12 +8,11 @@ use mathlib.Core.Option.{Option, none, some}
 use Prim.Native.Nat.{ℕ, _≤_, _<_, zero-le}
 use native.Mathlib.Omega.{arith}
 use lib.Dec.{eqb, leb}
-use lib.ListN.{length, getD, length-set}
+use lib.ListN.{length, length-set}
 use lib.Seq.{set-comm, set-out}
 use borrow.Author.Tests.{leb-true, eq-eqb}
 use Rattle.semantics.specs.Numbers.{below, filter}
 use Rattle.semantics.specs.Program.{Program}
-use Rattle.semantics.specs.Widths.{truncated}
 use Rattle.semantics.specs.Expressions.{exprValues}
 use Rattle.semantics.specs.State.{State, marked, active}
 use Rattle.semantics.specs.Completion.{storeValue, stores, target, source, targetsApart, store}
@@ -28,21 +27,20 @@ use Rattle.semantics.proofs.Run.CrossOut.{cross-mark, active-crossOut, 
 put-length : (widths table values : List ℕ) (v : ℕ) (e : Option ℕ)
     → length (storeValue widths table values v e) ≡ length values
 put-length widths table values v none = refl
-put-length widths table values v (some e) = length-set values v (truncated widths v (getD table e 0))
+put-length widths table values v (some e) = length-set values v _
 
 -- a store past the list's end is no store
 put-out : (widths table values : List ℕ) (v : ℕ) (e : Option ℕ) → length values ≤ v
     → storeValue widths table values v e ≡ values
 put-out widths table values v none l = refl
-put-out widths table values v (some e) l = set-out values v (truncated widths v (getD table e 0)) l
+put-out widths table values v (some e) l = set-out values v _ l
 
 put-comm : (widths table values : List ℕ) (v w : ℕ) (e f : Option ℕ) → v ≢ w
     → storeValue widths table (storeValue widths table values v e) w f
     ≡ storeValue widths table (storeValue widths table values w f) v e
 put-comm widths table values v w none f n = refl
 put-comm widths table values v w (some e) none n = refl
-put-comm widths table values v w (some e) (some f) n =
-    set-comm values v w (truncated widths v (getD table e 0)) (truncated widths w (getD table f 0)) n
+put-comm widths table values v w (some e) (some f) n = set-comm values v w _ _ n
 
 -- ---- the stores of a cycle
 
