@@ -1,6 +1,6 @@
--- What questions 1 to 5 give to the code: an accepted program can be walked where there are as many values as variables,
--- and lists that fit have one element for each node.
-use mathlib.Core.Path.{_≡_}
+-- What check's questions and question 5 give to the code: an accepted program can be walked where there are as many values
+-- as variables, lists that fit have one element for each node, and each value has a width.
+use mathlib.Core.Path.{_≡_, sym, _∙_}
 use mathlib.Core.Bool.{true}
 use mathlib.Core.Logic.{inl, inr}
 use mathlib.Core.List.{List}
@@ -18,6 +18,8 @@ use Rattle.semantics.proofs.Lists.QuestionLaws.{accepted}
 use Rattle.semantics.proofs.Order.CycleOrder.{fits-lengths}
 use Rattle.player.specs.Walks.{kindWord, Walkable}
 use Rattle.player.specs.WellFormed.{ListsFit}
+use Rattle.player.specs.Work.{EachWidth}
+use Rattle.player.proofs.MaskLaws.{each-width}
 
 condition-there : (P : Program) → Accepted P → (i : ℕ) → i < nodeCount (P .nodes) → 6 ≤ kindWord (P .nodes) i
     → kindWord (P .nodes) i ≤ 7 → aAt (P .nodes) i < exprCount (P .exprs)
@@ -54,3 +56,10 @@ accepted-lists P s ok lengths =
       marksFit = fit .marks;
       countsFit = fit .counts;
     }
+
+pub accepted-widths : (P : Program) (s : State) → checkNumber P ≡ 0 → lengthsOk P s ≡ true
+    → (length (P .widths) ≡ length (s .values)) × (length (s .values) ≤ 256) × EachWidth (P .widths)
+accepted-widths P s ok lengths =
+    let a = accepted P ok in
+    let fit = fits-lengths P s lengths .values in
+    (a .widthsFit .asMany ∙ sym fit, omega (arith, fit, a .sizes .variablesFit), each-width P (a .widthsFit))

@@ -1,5 +1,5 @@
 -- Widths and masks in code: the mask of a width, the masks that a run starts with, and what a variable keeps by its mask.
-use mathlib.Core.Path.{_≡_, sym, ap, _∙_, subst}
+use mathlib.Core.Path.{_≡_, refl, sym, ap, _∙_, subst}
 use mathlib.Core.Bool.{true, false}
 use mathlib.Core.List.{List}
 use mathlib.Core.Logic.{_≢_, inl, inr}
@@ -75,7 +75,7 @@ abbrev pub RangeTo : List ℕ → List ℕ → ℕ → Type 0
 RangeTo widths values v =
     (v ≤ length values) × ((u : ℕ) → u < v → getD values u 0 < 2 ^ widthAt widths u)
 
-module _ {widths values : List ℕ} {v mask : ℕ} (right : mask ≡ 2 ^ widthAt widths v - 1) (l : v < length values) where
+module _ (widths values : List ℕ) {v mask : ℕ} (right : mask ≡ 2 ^ widthAt widths v - 1) (l : v < length values) where
   pub one-in-range : RangeTo widths values v → getD values v 0 ≤ mask → RangeTo widths values (v + 1)
   one-in-range h fits = (
     omega arith,
@@ -92,6 +92,6 @@ module _ {widths values : List ℕ} {v mask : ℕ} (right : mask ≡ 2 ^ widthAt
   too-wide wide =
       sym (refuted _ (λ h. let least = le-ones (widthAt widths v) (in-range widths values h v l) in omega arith))
 
-pub all-in-range : {widths values : List ℕ} {v : ℕ} → RangeTo widths values v → length values ≤ v
+pub all-in-range : (widths values : List ℕ) {v : ℕ} → RangeTo widths values v → length values ≤ v
     → true ≡ valuesInRange widths values
-all-in-range {widths} {values} h l = sym (range-in widths values (λ u m. h .1 u (omega arith)))
+all-in-range widths values h l = sym (range-in widths values (λ u m. h .1 u (omega arith)))

@@ -12,7 +12,13 @@ fn word_of(number: u16, item: u16) -> u32
 }
 
 #[no_mangle]
-pub extern "C" fn player_check(exprs: &[u16], nodes: &[u16], widths: &[u16], vars: u16, chans: u16) -> u32
+pub extern "C" fn player_check(
+    exprs: &[u16],
+    nodes: &[u16],
+    widths: &[u16],
+    vars: u16,
+    chans: u16,
+) -> u32
     ensures { λ r. ⌜ CheckAnswer (programOf (now (exprs .entry)) (now (nodes .entry)) (now (widths .entry)) vars chans)
         (numberIn r) (itemIn r) ⌝ }
 {
@@ -35,9 +41,7 @@ pub extern "C" fn player_begin(
         (stateOf (now (values .entry)) (now (marks .entry)) (now (counts .entry)))
         (numberIn r) (itemIn r) (now (marks .exit)) (now (counts .exit)) ⌝ }
 {
-    let answer = crate::begin(
-        exprs, nodes, widths, vars, chans, values, marks, counts,
-    );
+    let answer = crate::begin(exprs, nodes, widths, vars, chans, values, marks, counts);
     word_of(answer.number, answer.item)
 }
 

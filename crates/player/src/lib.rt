@@ -128,7 +128,5 @@ pub fn run(
             worked: 0,
         };
     }
-    work_cycles(
-        exprs, nodes, widths, values, marks, counts, book, cycles,
-    )
+    work_cycles(exprs, nodes, widths, values, marks, counts, book, cycles)
 }

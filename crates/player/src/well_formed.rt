@@ -79,7 +79,13 @@ fn control_formed(nodes: &[u16], marks: &[u8], counts: &[u16]) -> bool
 }
 
 // Question 6 of a state whose lists fit an accepted program.
-pub fn well_formed(nodes: &[u16], widths: &[u16], values: &[u16], marks: &[u8], counts: &[u16]) -> bool
+pub fn well_formed(
+    nodes: &[u16],
+    widths: &[u16],
+    values: &[u16],
+    marks: &[u8],
+    counts: &[u16],
+) -> bool
     requires { ⌜ ListsFit (now nodes) (now marks) (now counts) ⌝ }
     requires { ⌜ (length (now widths) ≡ length (now values)) × (length (now values) ≤ 256) × EachWidth (now widths) ⌝ }
     ensures { λ r. ⌜ ((exprs : List ℕ) (vars chans : ℕ)

@@ -39,7 +39,7 @@ abbrev μ-loop : tie.MeasureT-loop
 -- ---- before the loop
 
 abbrev begin : tie.After-fill Inv-loop μ-loop → tie.Start Inv-loop μ-loop
-begin c = c .before .before .before .before .before .before .before .before .before .before .before
+begin c = c .before .before .before .before .before .before .before .before .before .before .before .before
 
 -- no cycle is asked for
 returns : tie.Need-returns Inv-loop μ-loop
@@ -49,7 +49,7 @@ returns c =
 
 fill-requires : tie.Need-fill-requires Inv-loop μ-loop
 fill-requires c κs =
-    let s = c .before .before .before .before .before .before .before .before .before .before in
+    let s = c .before .before .before .before .before .before .before .before .before .before .before in
     let P = programOf (s .args .exprs .now) (s .args .nodes .now) (s .args .widths .now) (s .pre .0) (s .pre .1) in
     let a = accepted P (s .pre .2 .accepted) in
     let sizes = a .sizes in

@@ -1,5 +1,4 @@
 -- `values_in_range` stops at the first value above its variable's mask. The invariant: the values passed are in range.
-use mathlib.Core.Path.{_≡_}
 use Prim.Native.Nat.{_-_, zero-le}
 use native.Mathlib.Omega.{arith}
 use lib.ListN.{length}
@@ -30,16 +29,20 @@ greatest-requires c κs =
 returns : tie.Need-returns Inv-loop μ-loop
 returns c =
     let called = c .before .before in
-    too-wide (called .greatest .ensures) (called .before .loop-test .taken) (c .if1 .taken)
+    let a = called .before .before .before .before .before .args in
+    too-wide (a .widths .now) (a .values .now) (called .greatest .ensures) (called .before .loop-test .taken) (c .if1 .taken)
 
 loop-again : tie.Need-loop-again Inv-loop μ-loop
 loop-again c =
     let called = c .before .before in
-    one-in-range (called .greatest .ensures) (called .before .loop-test .taken) (called .before .before .loop .inv)
-    (c .if1 .left)
+    let a = called .before .before .before .before .before .args in
+    one-in-range (a .widths .now) (a .values .now) (called .greatest .ensures) (called .before .loop-test .taken)
+    (called .before .before .loop .inv) (c .if1 .left)
 
 returns-2 : tie.Need-returns-2 Inv-loop μ-loop
-returns-2 c = all-in-range (c .before .loop .inv) (c .loop-test .left)
+returns-2 c =
+    let a = c .before .before .before .before .args in
+    all-in-range (a .widths .now) (a .values .now) (c .before .loop .inv) (c .loop-test .left)
 
 pub values-in-range-spec : {M : Type 1} → statement M
 values-in-range-spec =
