@@ -85,30 +85,33 @@ pub fn print_entries(entries: &[u16], cycle: u16) {
 // What went wrong, by the number of the question.
 fn print_reason(number: u16) {
     match number {
-        1..=3 => print_reason_of_program(number),
+        1..=3 | 11 => print_reason_of_program(number),
         4..=6 => print_reason_of_state(number),
         _ => print_reason_of_cycle(number),
     }
 }
 
-// A paper's lists are whole records, so that question 1 is about the counts alone.
+// A paper's lists are whole records and it has a width for each variable, so that question 1 is about the counts alone and
+// question 11 about the widths themselves.
 fn print_reason_of_program(number: u16) {
     match number {
         1 => say(
             b"  A count is outside its limits: N is 1 to 1024, E 0 to 1024, V and C 0 to 256.",
         ),
         2 => say(b"  Its op is unknown, an operand is out of range, or an unused word is not 0."),
-        _ => say(b"  Its kind, end, parent, depth, number of children or an unused word is wrong."),
+        3 => say(b"  Its kind, end, parent, depth, number of children or an unused word is wrong."),
+        _ => say(b"  A variable is not 1 to 16 bits wide."),
     }
 }
 
+// Begin alone asks question 6 of what a paper gives, and it asks it of the values.
 fn print_reason_of_state(number: u16) {
     match number {
         4 => say(
             b"  It refers to a variable, a channel or an expression that the program does not have.",
         ),
         5 => say(b"  A list of the state has a wrong length."),
-        _ => say(b"  The state is not well formed."),
+        _ => say(b"  A starting value is too wide for its variable."),
     }
 }
 

@@ -16,9 +16,11 @@ use super::table::Columns;
 use program::limits::NODES_MAX;
 use program::limits::VARS_MAX;
 
-// How a program is played: its numbers of variables and channels, the order, the cycles asked and the table's columns.
+// How a program is played: its number of variables and their widths, its number of channels, the order, the cycles asked
+// and the table's columns.
 pub struct Settings {
     pub vars: u16,
+    pub widths: [u16; 256],
     pub chans: u16,
     pub order: Order,
     pub cycles: u16,
@@ -68,9 +70,11 @@ fn work_cycle(
     let mut old_counts = [0u16; NODES_MAX];
     copy(values, &mut old_values);
     copy(counts, &mut old_counts);
+    let widths = settings.widths;
     let ran = player::run(
         exprs,
         nodes,
+        words_from(&widths, 0, settings.vars as usize),
         settings.vars,
         settings.chans,
         values,
@@ -219,9 +223,11 @@ pub fn play(
     book: &[u16],
     settings: Settings,
 ) {
+    let widths = settings.widths;
     let answer = player::begin(
         exprs,
         nodes,
+        words_from(&widths, 0, settings.vars as usize),
         settings.vars,
         settings.chans,
         values,

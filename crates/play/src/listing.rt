@@ -1,6 +1,7 @@
-// The program as an indented listing: a line for each node, with its number.
+// The program as an indented listing: a line for each node, with its number, and the widths that are not 16.
 use super::expression::put_expression;
 use super::line::Line;
+use super::lists::as_word;
 use super::lists::byte_at;
 use super::lists::less;
 use super::lists::set_word;
@@ -15,6 +16,7 @@ use program::kinds::WHL;
 use program::limits::DEPTH_MAX;
 use program::limits::EXPRS_MAX;
 use program::limits::NODES_MAX;
+use program::limits::WIDTH_MAX;
 use program::words::a_word;
 use program::words::b_word;
 use program::words::kind_word;
@@ -123,4 +125,29 @@ pub fn print(exprs: &[u16], nodes: &[u16], expr_count: u16, node_count: u16) {
     let mut named = [0u8; EXPRS_MAX];
     print_nodes(exprs, nodes, node_count, &mut depths, &mut named);
     print_named(exprs, expr_count, &mut named);
+}
+
+fn print_width(v: u16, width: u16) {
+    if width != WIDTH_MAX {
+        let line = Line::new()
+            .pad_to(START)
+            .name(b'v', v)
+            .put(b" is ")
+            .word(width);
+        let line = if width == 1 {
+            line.put(b" bit")
+        } else {
+            line.put(b" bits")
+        };
+        line.put(b" wide").end();
+    }
+}
+
+// The variables that are not as wide as a word.
+pub fn print_widths(widths: &[u16]) {
+    let mut v = 0;
+    while v < widths.len() {
+        print_width(as_word(v), widths[v]);
+        v += 1;
+    }
 }

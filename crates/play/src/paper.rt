@@ -1,5 +1,5 @@
-// A paper, as a list of words: E, N, V and C, the expressions, the nodes, the values, the cycles asked, and the entries
-// of the book.
+// A paper, as a list of words: E, N, V and C, the expressions, the nodes, the widths, the values, the cycles asked, and the
+// entries of the book.
 use super::cycles;
 use super::cycles::Settings;
 use super::entries::Order;
@@ -21,7 +21,7 @@ use program::words::word_at;
 pub const BOOK: usize = 4096;
 
 // The longest paper: E, N, V and C, the longest lists, the cycles asked and the longest book.
-pub const WORDS: usize = 4 + 3 * EXPRS_MAX + 5 * NODES_MAX + (VARS_MAX as usize) + 1 + BOOK;
+pub const WORDS: usize = 4 + 3 * EXPRS_MAX + 5 * NODES_MAX + 2 * (VARS_MAX as usize) + 1 + BOOK;
 
 // The order that is asked for.
 pub enum Asked {
@@ -36,6 +36,7 @@ pub enum Asked {
 // Where the lists of a paper start.
 struct Lists {
     nodes: usize,
+    widths: usize,
     values: usize,
     cycles: usize,
     book: usize,
@@ -43,10 +44,12 @@ struct Lists {
 
 fn lists_of(words: &[u16]) -> Lists {
     let nodes = 4 + 3 * (word_at(words, 0) as usize);
-    let values = nodes + 5 * (word_at(words, 1) as usize);
+    let widths = nodes + 5 * (word_at(words, 1) as usize);
+    let values = widths + (word_at(words, 2) as usize);
     let cycles = values + (word_at(words, 2) as usize);
     Lists {
         nodes,
+        widths,
         values,
         cycles,
         book: cycles + 1,
@@ -105,10 +108,18 @@ fn print_head(heading: Line, words: &[u16], cycles: u16, order: Order) {
     say(b"");
 }
 
-fn settings_of(words: &[u16], order: Order, cycles: u16) -> Settings {
+// Widths in a list of their own, since a struct holds no part of another list.
+fn own_widths(widths: &[u16]) -> [u16; 256] {
+    let mut own = [0u16; VARS_MAX as usize];
+    copy(widths, &mut own);
+    own
+}
+
+fn settings_of(words: &[u16], widths: &[u16], order: Order, cycles: u16) -> Settings {
     let vars = word_at(words, 2);
     Settings {
         vars,
+        widths: own_widths(widths),
         chans: word_at(words, 3),
         order,
         cycles,
@@ -155,14 +166,16 @@ pub fn play<'a>(name: &[u8], heading: Line, words: &'a [u16], asked: Asked, give
         return;
     }
     let exprs = words_from(words, 4, less(lists.nodes, 4));
-    let nodes = words_from(words, lists.nodes, less(lists.values, lists.nodes));
+    let nodes = words_from(words, lists.nodes, less(lists.widths, lists.nodes));
+    let widths = words_from(words, lists.widths, less(lists.values, lists.widths));
     let values = words_from(words, lists.values, less(lists.cycles, lists.values));
     let cycles = word_at(words, lists.cycles);
     let own = words_from(words, lists.book, BOOK);
     let order = order_of(asked, own);
     print_head(heading, words, cycles, order);
     listing::print(exprs, nodes, word_at(words, 0), word_at(words, 1));
+    listing::print_widths(widths);
     say(b"");
-    let settings = settings_of(words, order, cycles);
+    let settings = settings_of(words, widths, order, cycles);
     play_on_lists(exprs, nodes, values, book_of(asked, own, given), settings);
 }

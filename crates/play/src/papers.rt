@@ -3,14 +3,15 @@
 use super::lists::fill;
 
 // How many papers there are. The first is played where none is asked for.
-pub const COUNT: u16 = 15;
+pub const COUNT: u16 = 18;
 
 // Puts the text of a paper into a buffer, and answers its length.
 pub fn text_of(paper: u16, text: &mut [u8]) -> usize {
     match paper {
         1..=4 => put_larger(paper, text),
         5..=9 => put_first_sample(paper, text),
-        _ => put_later_sample(paper, text),
+        10..=15 => put_later_sample(paper, text),
+        _ => put_width_sample(paper, text),
     }
 }
 
@@ -44,6 +45,14 @@ fn put_later_sample(paper: u16, text: &mut [u8]) -> usize {
     }
 }
 
+fn put_width_sample(paper: u16, text: &mut [u8]) -> usize {
+    match paper {
+        16 => counter_of_12_bits(text),
+        17 => input_of_1_bit(text),
+        _ => value_too_wide(text),
+    }
+}
+
 fn producer_and_consumer(text: &mut [u8]) -> usize {
     fill(
         text,
@@ -64,6 +73,7 @@ fn producer_and_consumer(text: &mut [u8]) -> usize {
 2 6 11 0 0
 3 8 10 1 8
 3 8 11 3 11
+16 16 16 16
 0 0 0 0
 20
 ",
@@ -86,6 +96,7 @@ fn two_countdowns(text: &mut [u8]) -> usize {
 3 5 7 1 4
 8 5 8 0 0
 3 0 9 2 1
+16 16 16
 3 2 0
 20
 ",
@@ -101,6 +112,7 @@ fn swap(text: &mut [u8]) -> usize {
 2 65535 3 0 0
 3 0 2 0 1
 3 0 3 1 0
+16 16
 3 7
 5
 ",
@@ -120,6 +132,7 @@ fn factorial(text: &mut [u8]) -> usize {
 2 2 6 0 0
 3 3 5 1 3
 3 3 6 0 4
+16 16
 5 0
 20
 ",
@@ -147,6 +160,7 @@ fn swap_with_wrong_book(text: &mut [u8]) -> usize {
 2 65535 3 0 0
 3 0 2 0 1
 3 0 3 1 0
+16 16
 3 7
 5
 1 1
@@ -163,6 +177,7 @@ fn two_stores(text: &mut [u8]) -> usize {
 2 65535 3 0 0
 3 0 2 0 0
 3 0 3 0 0
+16
 0
 5
 1 2
@@ -181,6 +196,7 @@ fn late_sender(text: &mut [u8]) -> usize {
 1 0 5 0 0
 8 2 4 0 0
 5 2 5 0 0
+16
 0
 5
 ",
@@ -195,6 +211,7 @@ fn two_inputs(text: &mut [u8]) -> usize {
 2 65535 3 0 0
 4 0 2 0 0
 4 0 3 0 1
+16 16
 0 0
 5
 1 2
@@ -255,6 +272,7 @@ fn countdown(text: &mut [u8]) -> usize {
 1 0 0  0 1 0  3 0 1      # v0, 1, v0 - 1
 7 65535 2 0 0
 3 0 2 0 2
+16
 1
 5
 ",
@@ -271,6 +289,7 @@ fn loop_running_empty(text: &mut [u8]) -> usize {
 1 0 4 0 0
 7 1 4 1 0
 3 2 4 0 2
+16
 1
 5
 ",
@@ -287,7 +306,55 @@ fn wrapping(text: &mut [u8]) -> usize {
 2 65535 3 0 0
 3 0 2 0 3
 3 0 3 1 4
+16 16
 7 7
+5
+",
+    )
+}
+
+fn counter_of_12_bits(text: &mut [u8]) -> usize {
+    fill(
+        text,
+        b"# A counter of 12 bits passes 4095
+3 2 1 0
+0 1 0  1 0 0  2 1 0      # 1, v0, v0 + 1
+7 65535 2 0 0
+3 0 2 0 2
+12
+4093
+5
+",
+    )
+}
+
+fn input_of_1_bit(text: &mut [u8]) -> usize {
+    fill(
+        text,
+        b"# An IN into a variable of 1 bit, beside an assignment of what is sent
+3 4 2 1
+1 1 0  0 4 0  2 0 1      # v1, 4, v1 + 4
+2 65535 4 0 0
+5 0 2 0 2
+4 0 3 0 0
+3 0 4 1 2
+1 16
+0 3
+5
+",
+    )
+}
+
+fn value_too_wide(text: &mut [u8]) -> usize {
+    fill(
+        text,
+        b"# A starting value that is too wide for 12 bits
+3 2 1 0
+0 1 0  1 0 0  2 1 0      # 1, v0, v0 + 1
+7 65535 2 0 0
+3 0 2 0 2
+12
+4096
 5
 ",
     )

@@ -5,10 +5,10 @@ use Rattle.play.proofs.source.print_further_papers.Statement.{statement
 use Rattle.play.proofs.source.print_further_papers.Tie as tie
 
 abbrev Inv-loop : tie.InvT-loop
-Inv-loop paper₀ paper = paper ≤ 16
+Inv-loop paper₀ paper = paper ≤ 19
 
 abbrev μ-loop : tie.MeasureT-loop
-μ-loop paper₀ paper = 16 - paper
+μ-loop paper₀ paper = 19 - paper
 
 pub print-further-papers-spec : {M : Type 1} → statement M
 print-further-papers-spec =
