@@ -91,7 +91,7 @@ fn print_reason(number: u16) {
     }
 }
 
-// A paper's lists are whole records and it has a width for each variable, so that question 1 is about the counts alone and
+// A paper's lists are whole records, and it has a width for each variable: so question 1 is about the counts alone, and
 // question 11 about the widths themselves.
 fn print_reason_of_program(number: u16) {
     match number {

@@ -16,8 +16,8 @@ use super::table::Columns;
 use program::limits::NODES_MAX;
 use program::limits::VARS_MAX;
 
-// How a program is played: its number of variables and their widths, its number of channels, the order, the cycles asked
-// and the table's columns.
+// How a program is played: its number of variables and their widths, its number of channels, the order, the cycles
+// asked and the table's columns.
 pub struct Settings {
     pub vars: u16,
     pub widths: [u16; 256],

@@ -1,5 +1,5 @@
-// A paper, as a list of words: E, N, V and C, the expressions, the nodes, the widths, the values, the cycles asked, and the
-// entries of the book.
+// A paper, as a list of words: E, N, V and C, the expressions, the nodes, the widths, the values, the cycles asked, and
+// the entries of the book.
 use super::cycles;
 use super::cycles::Settings;
 use super::entries::Order;

@@ -1,5 +1,5 @@
--- What check's questions and question 5 give to the code: an accepted program can be walked where there are as many values
--- as variables, lists that fit have one element for each node, and each value has a width.
+-- What check's questions and question 5 give to the code: an accepted program can be walked where there are as many
+-- values as variables, lists that fit have one element for each node, and each value has a width.
 use mathlib.Core.Path.{_≡_, sym, _∙_}
 use mathlib.Core.Bool.{true}
 use mathlib.Core.Logic.{inl, inr}

@@ -68,11 +68,13 @@ module _ (P : Program) (s : State) where
       pub answer-10 : looped ≡ true → BeginAnswer P s 10 0 marks counts
       unfolding isFaultItem
       answer-10 e =
-          let n : firstNo questions ≡ 10 = after-check P later 0 ok ∙ rw (lengths, inRange, ← written .rightLooped, e) in
+          let n : firstNo questions ≡ 10 =
+          after-check P later 0 ok ∙ rw (lengths, inRange, ← written .rightLooped, e) in
           rw (written .rightMarks, written .rightCounts, e) (refused 10 0 n refl refl)
 
       pub answer-0 : looped ≡ false → BeginAnswer P s 0 0 marks counts
       unfolding isFaultItem
       answer-0 e =
-          let n : firstNo questions ≡ 0 = after-check P later 0 ok ∙ rw (lengths, inRange, ← written .rightLooped, e) in
+          let n : firstNo questions ≡ 0 =
+          after-check P later 0 ok ∙ rw (lengths, inRange, ← written .rightLooped, e) in
           rw (written .rightMarks, written .rightCounts, e) (by-number 0 0 n refl (answerAt 0) refl refl)

@@ -20,13 +20,13 @@ use Rattle.semantics.proofs.Lists.QuestionLaws.{accepted, firstNo-append}
 use Rattle.semantics.proofs.Order.CycleOrder.{fits-lengths}
 use Rattle.program.specs.Answer.{programOf}
 use Rattle.player.specs.Begin.{stateOf}
-use Rattle.player.specs.Cycle.{Runnable, Carried, CycleAnswer, CycleFrom, programFrom, Started, Advanced, walkAfter}
-use Rattle.player.specs.Cycle.{firstQuestions, AskAnswer, AdvanceAnswer, WorkedCycle}
+use Rattle.player.specs.Cycle.{Runnable, Carried, CycleAnswer, CycleFrom, programFrom, Started, Advanced}
+use Rattle.player.specs.Cycle.{walkAfter, firstQuestions, AskAnswer, AdvanceAnswer, WorkedCycle}
 
 -- the next m entries of the book, as many as there are marks
 abbrev pub cycle-from : {exprs nodes values marks counts : List ℕ} {widths : List ℕ} {vars chans m : ℕ}
-    (book : List ℕ) → Runnable (programOf exprs nodes widths vars chans) (stateOf values marks counts) → m ≡ markCount marks
-    → m ≤ length book → CycleFrom exprs nodes values marks counts (take m book)
+    (book : List ℕ) → Runnable (programOf exprs nodes widths vars chans) (stateOf values marks counts)
+    → m ≡ markCount marks → m ≤ length book → CycleFrom exprs nodes values marks counts (take m book)
 cycle-from {exprs} {nodes} {values} {marks} {counts} {widths} {vars} {chans} {m} book r count enough =
     let P = programOf exprs nodes widths vars chans in
     record {

@@ -1,4 +1,5 @@
--- Widths and masks in code: the mask of a width, the masks that a run starts with, and what a variable keeps by its mask.
+-- Widths and masks in code: the mask of a width, what a variable keeps by its mask, the masks that a run starts with,
+-- and the values' part of question 6.
 use mathlib.Core.Path.{_≡_, refl, sym, ap, _∙_, subst}
 use mathlib.Core.Bool.{true, false}
 use mathlib.Core.List.{List}

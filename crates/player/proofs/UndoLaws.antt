@@ -12,7 +12,8 @@ use lib.ListN.{length, getD, set, length-set}
 use lib.Seq.{getD-set-same, getD-set-other, ext-getD}
 use borrow.Author.Tests.{eqb-true}
 use Rattle.semantics.specs.Program.{Program, Kind, nodeCount, isPar, kindOf, kindAt}
-use Rattle.semantics.specs.State.{State, marked, liveChildren, marksAreBits, leavesMarked, pairsMeetInPar, controlFormed, wellFormed}
+use Rattle.semantics.specs.State.{State, marked, liveChildren, marksAreBits, leavesMarked, pairsMeetInPar}
+use Rattle.semantics.specs.State.{controlFormed, wellFormed}
 use Rattle.semantics.proofs.Lists.Logic.{and-left, lt-or-le, true-or-false, cond-at}
 use Rattle.semantics.proofs.Tree.WellFormedOnTree.{controlFormed-in}
 use Rattle.semantics.proofs.Order.InRange.{control-formed}

@@ -1,5 +1,5 @@
--- What question 6 asks of marks and counts as the code answers it: one pass over the nodes, with a table of how many children of each node are live,
--- that is, have a marked leaf at or below them.
+-- What question 6 asks of marks and counts, as the code answers it: one pass over the nodes, with a table of how many
+-- children of each node are live, that is, have a marked leaf at or below them.
 use mathlib.Core.Path.{_≡_}
 use mathlib.Core.Bool.{Bool, cond, _&&_}
 use mathlib.Core.List.{List}

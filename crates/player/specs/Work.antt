@@ -1,7 +1,7 @@
 -- What a run keeps beside the lent lists, in one list, `work`: from 0 on the values of the variables; from 256 on those of
 -- the expressions; from 1280 on the moment at which each expression was worked; at 2304 the present moment; at 2305 the
--- number of marks; at 2306 whether a zero-time loop was met; from 2307 on the parents of the nodes; and from 3331 on the
--- masks of the variables. The present moment ends when a value changes.
+-- number of marks; at 2306 whether a zero-time loop was met; from 2307 on the parents of the nodes; and from 3331 on
+-- the masks of the variables. The present moment ends when a value changes.
 use mathlib.Core.Path.{_≡_}
 use mathlib.Core.Bool.{Bool, true, false, not}
 use mathlib.Core.List.{List}

@@ -64,8 +64,8 @@ pub extern "C" fn player_run(
     book: &[u16],
     cycles: u16,
 ) -> u64
-    ensures { λ r. ⌜ RunAnswer (programOf (now (exprs .entry)) (now (nodes .entry)) (now (widths .entry)) vars chans) cycles
-        (stateOf (now (values .entry)) (now (marks .entry)) (now (counts .entry))) (now (book .entry))
+    ensures { λ r. ⌜ RunAnswer (programOf (now (exprs .entry)) (now (nodes .entry)) (now (widths .entry)) vars chans)
+        cycles (stateOf (now (values .entry)) (now (marks .entry)) (now (counts .entry))) (now (book .entry))
         (numberIn r) (itemOfRunIn r) (workedIn r)
         (stateOf (now (values .exit)) (now (marks .exit)) (now (counts .exit))) ⌝ }
 {

@@ -35,8 +35,8 @@ ghost use Rattle.program.specs.Answer.{programOf};
 ghost use Rattle.player.specs.Begin.{stateOf, BeginAnswer};
 ghost use Rattle.player.specs.Run.{RunAnswer};
 
-// Begins a program with the values as given: asks what check asks, question 5, question 6 of the values alone, and 10. Where
-// none is answered no, it writes marks and counts whole from entering node 0. What stood in them is not read.
+// Begins a program with the values as given: asks what check asks, question 5, question 6 of the values alone, and 10.
+// Where none is answered no, it writes marks and counts whole from entering node 0. What stood in them is not read.
 pub fn begin(
     exprs: &[u16],
     nodes: &[u16],
@@ -96,8 +96,8 @@ pub fn run(
     book: &[u16],
     cycles: u16,
 ) -> Ran
-    ensures { λ r. ⌜ RunAnswer (programOf (now (exprs .entry)) (now (nodes .entry)) (now (widths .entry)) vars chans) cycles
-        (stateOf (now (values .entry)) (now (marks .entry)) (now (counts .entry))) (now (book .entry))
+    ensures { λ r. ⌜ RunAnswer (programOf (now (exprs .entry)) (now (nodes .entry)) (now (widths .entry)) vars chans)
+        cycles (stateOf (now (values .entry)) (now (marks .entry)) (now (counts .entry))) (now (book .entry))
         (r .number) (r .item) (r .worked) (stateOf (now (values .exit)) (now (marks .exit)) (now (counts .exit))) ⌝ }
 {
     let checked = program::check(exprs, nodes, widths, vars, chans);

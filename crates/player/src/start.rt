@@ -47,7 +47,8 @@ fn fill_parents(nodes: &[u16], work: &mut [u16; WORK])
 fn fill_masks(widths: &[u16], work: &mut [u16; WORK])
     requires { ⌜ (length (now widths) ≤ 256) × EachWidth (now widths) ⌝ }
     requires { ⌜ MasksTo (now widths) (now work) (now work) 0 ⌝ }
-    ensures { λ _. ⌜ MasksTo (now (widths .entry)) (now (work .entry)) (now (work .exit)) (length (now (widths .entry))) ⌝ }
+    ensures { λ _. ⌜ MasksTo (now (widths .entry)) (now (work .entry)) (now (work .exit))
+        (length (now (widths .entry))) ⌝ }
 {
     let mut v: usize = 0;
     while v < widths.len() {

@@ -26,7 +26,8 @@ ghost use Rattle.semantics.specs.Completion.{stores, source};
 ghost use Rattle.player.specs.Work.{Memo};
 ghost use Rattle.player.specs.Claims.{Claim, Aged};
 ghost use Rattle.player.specs.Channels.{PairedEntry, Unwritten, program};
-ghost use Rattle.player.specs.Stores.{targetAt, storeAt, takenBack, HeldFit, Storing, StoringTo, EntryWorked, RightSides, Stored};
+ghost use Rattle.player.specs.Stores.{targetAt, storeAt, takenBack, HeldFit, Storing, StoringTo, EntryWorked};
+ghost use Rattle.player.specs.Stores.{RightSides, Stored};
 
 // Whether node i, a marked one, stores: an ASG, or an IN that an OUT is marked for.
 fn stores(nodes: &[u16], claims: &[u16; CLAIMS], i: u16) -> bool

@@ -1,4 +1,5 @@
-// The words of the records, and the widths. A word past the end of a list reads as 0, so that no reader asks anything of its caller.
+// The words of the records, and the widths. A word past the end of a list reads as 0, so that no reader asks anything
+// of its caller.
 use super::VarId;
 ghost use mathlib.Core.Path.{_≡_};
 ghost use Prim.Native.Nat.{_+_, _*_};

@@ -39,8 +39,8 @@ beginAnswer P s =
     let q = firstNo (checkQuestions P ++ ask 5 (lengthsOk P s) ∷ ask 6 inRange ∷ ask 10 (not (w .looped)) ∷ []) in
     cond (eqb q 0) (answer 0 (record { values = s .values; marks = w .marks; counts = w .counts })) (answer q s)
 
--- Run asks what check asks, questions 5 and 6, and then works cycles, each of which asks 7 to 10. Where one of the former
--- is answered no, no cycle is worked and all three lists stay.
+-- Run asks what check asks, questions 5 and 6, and then works cycles, each of which asks 7 to 10. Where one of the
+-- former is answered no, no cycle is worked and all three lists stay.
 unfoldable pub runAnswer : Program → ℕ → State → List ℕ → Answer
 runAnswer P n s book =
     let r = run P n s book in

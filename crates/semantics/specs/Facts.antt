@@ -1,5 +1,5 @@
--- No rules: what the questions before the first cycle say when they are answered yes, as facts. Contracts of the code below the calls ask
--- and give these.
+-- No rules: what the questions before the first cycle say when they are answered yes, as facts. Contracts of the code
+-- below the calls ask and give these.
 use mathlib.Core.Path.{_≡_}
 use mathlib.Core.Bool.{Bool, true, false, _&&_}
 use mathlib.Core.List.{List}

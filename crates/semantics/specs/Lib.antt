@@ -1,13 +1,14 @@
--- The rules, by the sections of the rules document.
+-- The rules, by the sections of the rules document and by the change requests.
 
 -- tests, searches and sums that the rules use
 pub mod Numbers
 -- "Program lists"
 pub mod Program
-pub mod Widths
 pub mod Expressions
 pub mod Parents
 pub mod Tree
+-- request 1, with question 11
+pub mod Widths
 -- "State and book", with questions 5 and 6; its book is in Run and Book
 pub mod State
 -- "The plain machine", with questions 7 to 10

@@ -1,5 +1,6 @@
--- The papers of the section "Sample papers" that are to be proved, three more, and those of request 1, as one list. Each begins and then
--- runs, through all the questions, as the calls do; `proofs/Run/SamplesPass.antt` has the theorem on the list.
+-- The papers of the section "Sample papers" that are to be proved, three more, and those of request 1, as one list.
+-- Each begins and then runs, through all the questions, as the calls do; `proofs/Run/SamplesPass.antt` has the theorem
+-- on the list.
 use mathlib.Core.Bool.{Bool, true, false, _&&_}
 use mathlib.Core.List.{List, [], _∷_, _++_}
 use Prim.Native.Nat.{ℕ}
@@ -242,7 +243,8 @@ samples =
     (gives 0 0 [] (0 ∷ 0 ∷ 1 ∷ 0 ∷ 1 ∷ 0 ∷ 0 ∷ []) (0 ∷ 2 ∷ 0 ∷ 0 ∷ 0 ∷ 0 ∷ 0 ∷ []))
     (gives 0 1 [] (0 ∷ 0 ∷ 0 ∷ 0 ∷ 0 ∷ 1 ∷ 0 ∷ []) (0 ∷ 1 ∷ 0 ∷ 0 ∷ 0 ∷ 0 ∷ 0 ∷ []))
     -- request 1: a counter of 12 bits passes 4,095; begin is lent rubbish for marks and counts and asks 6 of no mark
-    ∷ paper (counter (12 ∷ [])) (4094 ∷ []) 1 (1 ∷ []) (counterBegun 4094) (gives 0 1 (4095 ∷ []) (0 ∷ 1 ∷ []) (0 ∷ 0 ∷ []))
+    ∷ paper (counter (12 ∷ [])) (4094 ∷ []) 1 (1 ∷ []) (counterBegun 4094)
+    (gives 0 1 (4095 ∷ []) (0 ∷ 1 ∷ []) (0 ∷ 0 ∷ []))
     ∷ paper (counter (12 ∷ [])) (4094 ∷ []) 3 (1 ∷ 1 ∷ 1 ∷ []) (counterBegun 4094)
     (gives 0 3 (1 ∷ []) (0 ∷ 1 ∷ []) (0 ∷ 0 ∷ []))
     -- an input of 1 bit keeps 1 of the 7 that is sent, and the variable of 16 bits all of it

@@ -36,8 +36,8 @@ lengthsOk P s =
     eqb (length (s .values)) (P .variables) && eqb (length (s .marks)) (nodeCount (P .nodes))
     && eqb (length (s .counts)) (nodeCount (P .nodes))
 
--- ---- question 6: the state is well formed. Of marks and counts it asks four things, and of the values that they are in
--- range.
+-- ---- question 6: the state is well formed. Of marks and counts it asks four things, and of the values that they are
+-- in range.
 
 -- First, no mark is above 1.
 unfoldable pub marksAreBits : List ℕ → Bool

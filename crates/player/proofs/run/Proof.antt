@@ -61,7 +61,8 @@ returns-3 c =
     (sym (c .before .well-formed .ensures (a .exprs .now) (a .vars) (a .chans)) ∙ not-true _ (c .if3 .taken))
 
 -- and question 6
-runnable : (c : tie.Else3) → let s = start (c .before .before .before .before .before .before .before .before .before) in
+runnable : (c : tie.Else3)
+    → let s = start (c .before .before .before .before .before .before .before .before .before) in
     Runnable (program s) (state s)
 runnable c =
     let fit = c .before .before .before .before .before in
@@ -70,7 +71,8 @@ runnable c =
       accepted = checked (fit .before .before);
       ready = record {
         fit = fitting fit;
-        formed = sym (c .before .well-formed .ensures (a .exprs .now) (a .vars) (a .chans)) ∙ not-false _ (c .if3 .left);
+        formed = sym (c .before .well-formed .ensures (a .exprs .now) (a .vars) (a .chans))
+            ∙ not-false _ (c .if3 .left);
       };
     }
 

@@ -22,7 +22,8 @@ use Rattle.semantics.proofs.Lists.NumberLaws.{every-below, all-below, c
 use Rattle.semantics.proofs.Lists.ParentLaws.{is-parent}
 use Rattle.semantics.proofs.Tree.NodeLaws.{facts}
 use Rattle.semantics.proofs.Tree.TreeWellFormed.{plain}
-use Rattle.semantics.proofs.Tree.WellFormedOnTree.{NodeRight, WellFormedIn, leaf-right, plain-right, controlFormed-in}
+use Rattle.semantics.proofs.Tree.WellFormedOnTree.{NodeRight, WellFormedIn, leaf-right, plain-right}
+use Rattle.semantics.proofs.Tree.WellFormedOnTree.{controlFormed-in}
 use Rattle.semantics.proofs.Tree.Meetings.{Meeting, over-inside, meeting, in-order, meets}
 use Rattle.semantics.proofs.Tree.LiveChildren.{marked-inside, over-live, live-over}
 

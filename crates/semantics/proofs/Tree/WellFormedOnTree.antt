@@ -336,8 +336,8 @@ module _ (nodes marks counts : List ℕ) where
                 (every-active marks (meet i) .0 (every-active marks meet-all .0 meet-each i m) j m′);
           }
 
--- what question 6 asks of marks and counts is answered yes exactly when all nodes are right and any two marked ones meet
--- in a PAR
+-- what question 6 asks of marks and counts is answered yes exactly when all nodes are right and any two marked ones
+-- meet in a PAR
 pub controlFormed-in : (nodes marks counts : List ℕ) → length marks ≡ nodeCount nodes
     → WellFormedIn nodes marks counts 0 (nodeCount nodes) ↔ (controlFormed nodes marks counts ≡ true)
 unfolding controlFormed

@@ -69,10 +69,11 @@ asked : (c : tie.After-ask) (widths : List ℕ) (vars chans : ℕ)
     (r : Runnable (program (begin c) widths vars chans) (state (begin c)))
     → (let a = begin c .args in
     Carried (a .exprs .now) (a .nodes .now) widths (a .values .now) (a .marks .now) (a .work .now))
-    → AskAnswer (from (fitting c) widths vars chans r) (begin c .args .claims .now) (c .ask .result) (c .ask .last .1 .1 .0)
-    (c .ask .last .1 .1 .1 .1 .0) (c .ask .last .1 .1 .1 .1 .1 .0)
+    → AskAnswer (from (fitting c) widths vars chans r) (begin c .args .claims .now) (c .ask .result)
+    (c .ask .last .1 .1 .0) (c .ask .last .1 .1 .1 .1 .0) (c .ask .last .1 .1 .1 .1 .1 .0)
 asked c widths vars chans r carried =
-    c .ask .ensures (begin c .args .values .now) (begin c .args .counts .now) (from (fitting c) widths vars chans r) carried
+    c .ask .ensures (begin c .args .values .now) (begin c .args .counts .now) (from (fitting c) widths vars chans r)
+    carried
 
 returns-2 : tie.Need-returns-2
 returns-2 c =

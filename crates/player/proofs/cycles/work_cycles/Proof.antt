@@ -23,8 +23,8 @@ use Rattle.player.proofs.cycles.work_cycles.Statement.{statement}
 use Rattle.player.proofs.cycles.work_cycles.Tie as tie
 
 abbrev Inv-loop : tie.InvT-loop
-Inv-loop exprs nodes widths values₀ marks₀ counts₀ book cycles work₀ claims₀ worked₀ read₀ values marks counts work claims
-    worked read =
+Inv-loop exprs nodes widths values₀ marks₀ counts₀ book cycles work₀ claims₀ worked₀ read₀ values marks counts work
+    claims worked read =
     ((vars chans : ℕ) → Runnable (programOf exprs nodes widths vars chans) (stateOf values₀ marks₀ counts₀)
     → Progress (programOf exprs nodes widths vars chans) cycles (stateOf values₀ marks₀ counts₀) book
     (stateOf values marks counts) worked read)
@@ -32,8 +32,8 @@ Inv-loop exprs nodes widths values₀ marks₀ counts₀ book cycles work₀ cla
     × (length values ≡ length values₀) × (length marks ≡ length marks₀) × (length counts ≡ length counts₀)
 
 abbrev μ-loop : tie.MeasureT-loop
-μ-loop exprs nodes widths values₀ marks₀ counts₀ book cycles work₀ claims₀ worked₀ read₀ values marks counts work claims
-    worked read =
+μ-loop exprs nodes widths values₀ marks₀ counts₀ book cycles work₀ claims₀ worked₀ read₀ values marks counts work
+    claims worked read =
     cycles - worked
 
 -- ---- before the loop
@@ -98,7 +98,9 @@ left w =
     stateOf (lists .0) (lists .1 .0) (lists .1 .1 .0)
 
 abbrev program : tie.After-work-cycle Inv-loop μ-loop → ℕ → ℕ → Program
-program w vars chans = let a = start (called w) .args in programOf (a .exprs .now) (a .nodes .now) (a .widths .now) vars chans
+program w vars chans =
+    let a = start (called w) .args in
+    programOf (a .exprs .now) (a .nodes .now) (a .widths .now) vars chans
 
 abbrev Asked : tie.After-work-cycle Inv-loop μ-loop → ℕ → ℕ → Type 0
 Asked w vars chans =
@@ -112,8 +114,9 @@ worked-cycle : (w : tie.After-work-cycle Inv-loop μ-loop) (vars chans : ℕ) �
     (left w) (w .work-cycle .last .1 .1 .1 .1 .1 .1 .0) (w .work-cycle .last .1 .1 .1 .1 .1 .1 .1 .0)
 worked-cycle w vars chans r =
     let l = looped (called w) .loop in
-    rw (part-from (start (called w) .args .book .now) (l .read)) at
-    (w .work-cycle .ensures (start (called w) .args .widths .now) vars chans (l .inv .0 vars chans r .runnable) (l .inv .2))
+    let a = start (called w) .args in
+    rw (part-from (a .book .now) (l .read)) at
+    (w .work-cycle .ensures (a .widths .now) vars chans (l .inv .0 vars chans r .runnable) (l .inv .2))
 
 next : (w : tie.After-work-cycle Inv-loop μ-loop) → w .work-cycle .result ≡ 0 → (vars chans : ℕ) → Asked w vars chans
     → let t = called w in

@@ -22,7 +22,8 @@ walkable : (s : tie.Start) → Walkable (s .args .exprs .now) (s .args .nodes .n
 walkable s =
     let (widths, chans, accepted) = s .pre .0 in
     let values = s .args .values .now in
-    accepted-walkable (programOf (s .args .exprs .now) (s .args .nodes .now) widths (length values) chans) values accepted refl
+    accepted-walkable (programOf (s .args .exprs .now) (s .args .nodes .now) widths (length values) chans) values
+    accepted refl
 
 inside : (s : tie.Start) → length (s .args .marks .now) ≤ 1024
 inside s = omega (arith, s .pre .1 .0, walkable s .nodesFit)
@@ -89,8 +90,8 @@ walked c widths vars chans =
     let s = entry c in
     let (_, _, accepted) = s .pre .0 in
     let filled = lent .before .before .before .fill-values in
-    root-walked (s .args .exprs .now) (s .args .nodes .now) widths (s .args .values .now) (filled .last .1 .0) vars chans
-    (c .before .before .enter-node .result) (newMarks c) (newCounts c) (newWork c) (accepted .sizes .someNode)
+    root-walked (s .args .exprs .now) (s .args .nodes .now) widths (s .args .values .now) (filled .last .1 .0) vars
+    chans (c .before .before .enter-node .result) (newMarks c) (newCounts c) (newWork c) (accepted .sizes .someNode)
     (filled .ensures .1) (rw (blank s) at (c .before .before .enter-node .ensures (s .args .values .now) (walking lent)))
 
 returns : tie.Need-returns

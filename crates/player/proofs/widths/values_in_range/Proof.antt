@@ -30,7 +30,8 @@ returns : tie.Need-returns Inv-loop μ-loop
 returns c =
     let called = c .before .before in
     let a = called .before .before .before .before .before .args in
-    too-wide (a .widths .now) (a .values .now) (called .greatest .ensures) (called .before .loop-test .taken) (c .if1 .taken)
+    too-wide (a .widths .now) (a .values .now) (called .greatest .ensures) (called .before .loop-test .taken)
+    (c .if1 .taken)
 
 loop-again : tie.Need-loop-again Inv-loop μ-loop
 loop-again c =

@@ -27,14 +27,16 @@ loop-holds c = (search needs, λ nodes widths chans. refl)
 returns : tie.Need-returns Inv-loop μ-loop
 returns c nodes widths chans =
     let l = c .before .before .before .loop in
-    failed _ _ (l .i) _ (l .inv .0) (l .inv .1 nodes widths chans) (c .before .expr-ok .ensures nodes widths chans) (c .if1 .taken)
+    failed _ _ (l .i) _ (l .inv .0) (l .inv .1 nodes widths chans) (c .before .expr-ok .ensures nodes widths chans)
+    (c .if1 .taken)
 
 loop-again : tie.Need-loop-again Inv-loop μ-loop
 loop-again c =
     let l = c .before .before .before .loop in (
       omega arith,
       λ nodes widths chans.
-          passed-more _ (l .i) _ (l .inv .1 nodes widths chans) (c .before .expr-ok .ensures nodes widths chans) (c .if1 .left),
+          passed-more _ (l .i) _ (l .inv .1 nodes widths chans) (c .before .expr-ok .ensures nodes widths chans)
+          (c .if1 .left),
     )
 
 returns-2 : tie.Need-returns-2 Inv-loop μ-loop

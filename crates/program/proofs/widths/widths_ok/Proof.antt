@@ -13,7 +13,8 @@ returns : tie.Need-returns
 unfolding widthsOk
 returns c exprs nodes chans =
     let x = c .before .before .args in
-    ap (λ (t : Bool). eqb (length (x .widths .now)) (x .vars) && t) (search-answer _ _ _ (c .first-faulty-width .ensures))
+    ap (λ (t : Bool). eqb (length (x .widths .now)) (x .vars) && t)
+    (search-answer _ _ _ (c .first-faulty-width .ensures))
 
 pub widths-ok-spec : {M : Type 1} → statement M
 widths-ok-spec = tie.close (tie.spec (λ c κs. search needs) returns)
