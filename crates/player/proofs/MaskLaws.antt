@@ -10,7 +10,7 @@ use lib.Bits.{and-mask}
 use lib.Pow.{le-ones, lt-of-le-ones}
 use lib.Dec.{eqb, leb}
 use lib.ListN.{length, getD, set, length-set, List·getD-eq-default}
-use lib.Seq.{getD-set-same, getD-set-other}
+use lib.Seq.{getD-set-other}
 use borrow.Author.Tests.{eqb-true, leb-true}
 use Rattle.semantics.specs.Numbers.{upFrom, every}
 use Rattle.semantics.specs.Program.{Program}
@@ -20,6 +20,7 @@ use Rattle.semantics.proofs.Lists.Logic.{and-left, and-right, lt-or-le, refuted
 use Rattle.semantics.proofs.Lists.NumberLaws.{every-below}
 use Rattle.semantics.proofs.Order.InRange.{in-range, range-in}
 use Rattle.player.specs.Work.{EachWidth, Masks, MasksTo, maskedBy}
+use Rattle.player.proofs.WorkLaws.{filled-more}
 
 -- the widths of an accepted program
 pub each-width : (P : Program) → WidthsFit P → EachWidth (P .widths)
@@ -51,13 +52,7 @@ one-mask {widths} {before} {work} {v} mask right f fit l =
     λ j n. getD-set-other work (3331 + v) j mask 0 n in record {
       range = omega arith;
       size = length-set work (3331 + v) mask ∙ size;
-      masks = λ u m. elim (lt-or-le u v) [
-        | inl k ↦ other (3331 + u) (λ (e : 3331 + u ≡ 3331 + v). omega arith) ∙ f .masks u k
-        | inr k ↦
-            let e : v ≡ u = omega arith in
-            subst (λ (x : ℕ). getD (set work (3331 + v) mask) (3331 + x) 0 ≡ 2 ^ widthAt widths x - 1) e
-            (getD-set-same work (3331 + v) mask 0 (omega arith) ∙ right)
-      ];
+      masks = filled-more 3331 v mask (λ u. 2 ^ widthAt widths u - 1) work right (omega arith) (f .masks);
       zeros = λ u m. other (3331 + u) (λ (e : 3331 + u ≡ 3331 + v). omega arith) ∙ f .zeros u (omega arith);
       front = λ j m. other j (λ (e : j ≡ 3331 + v). omega arith) ∙ f .front j m;
     }

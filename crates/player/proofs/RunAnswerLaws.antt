@@ -1,5 +1,5 @@
--- What run promises, from the rules' answer; and where a question of 1 to 6 is answered no, the rules' answer from what
--- the code found: nothing is worked and nothing written. Where all six are answered yes, no item comes.
+-- What run promises, from the rules' answer; and where a question before the first cycle is answered no, the rules' answer
+-- from what the code found: nothing is worked and nothing written. Where all are answered yes, no item comes.
 use mathlib.Core.Path.{_≡_, refl, sym, ap, _∙_}
 use mathlib.Core.Bool.{Bool, true, false, cond}
 use mathlib.Core.List.{List, [], _∷_, _++_}
@@ -73,7 +73,7 @@ module _ {P : Program} {n : ℕ} {s : State} {book : List ℕ} where
         rightCounts = sym (ap (λ (x : Answer). x .state .counts) right);
       }
 
-  -- question q of 1 to 6 is the first answered no
+  -- question q, before the first cycle, is the first answered no
   refused : (q item : ℕ) → firstNo (checkQuestions P ++ later P s) ≡ q → eqb q 0 ≡ false → isFaultItem P q item ≡ true
       → RunAnswer P n s book q item 0 s
   unfolding runAnswer

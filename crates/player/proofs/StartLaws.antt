@@ -12,7 +12,7 @@ use Rattle.semantics.proofs.Lists.Logic.{lt-or-le}
 use Rattle.semantics.proofs.Lists.NumberLaws.{zeros}
 use Rattle.player.specs.Work.{Memo, KeptFrom, MasksTo, ParentsTo}
 use Rattle.player.specs.Cycle.{Carried}
-use Rattle.player.proofs.WorkLaws.{memo-same, memo-set, memo-unworked, tally-set}
+use Rattle.player.proofs.WorkLaws.{filled-more, memo-same, memo-set, memo-unworked, tally-set}
 use Rattle.player.proofs.MomentLaws.{unworked-at}
 use Rattle.player.proofs.MaskLaws.{all-masks}
 
@@ -90,13 +90,7 @@ one-parent {nodes} {before} {work} {i} parent right f fit l =
     λ j n. getD-set-other work (2307 + i) j parent 0 n in record {
       range = omega arith;
       size = length-set work (2307 + i) parent ∙ size;
-      parents = λ k u. elim (lt-or-le k i) [
-        | inl m ↦ other (2307 + k) (λ (e : 2307 + k ≡ 2307 + i). omega arith) ∙ f .parents k m
-        | inr m ↦
-            let e : i ≡ k = omega arith in
-            subst (λ (x : ℕ). getD (set work (2307 + i) parent) (2307 + x) 0 ≡ parentAt nodes x) e
-            (getD-set-same work (2307 + i) parent 0 (omega arith) ∙ right)
-      ];
+      parents = filled-more 2307 i parent (parentAt nodes) work right (omega arith) (f .parents);
       front = λ j u. other j (λ (e : j ≡ 2307 + i). omega arith) ∙ f .front j u;
       masks = λ j u. other j (λ (e : j ≡ 2307 + i). omega arith) ∙ f .masks j u;
     }

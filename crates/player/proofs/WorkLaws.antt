@@ -1,14 +1,16 @@
 -- Laws of `work`: what a store at one of its places keeps, and what is known of the expressions' values when the variables
 -- or the moment change.
-use mathlib.Core.Path.{_≡_, refl, sym, ap, _∙_}
+use mathlib.Core.Path.{_≡_, refl, sym, ap, _∙_, subst}
 use mathlib.Core.Bool.{not}
 use mathlib.Core.List.{List}
+use mathlib.Core.Logic.{inl, inr}
 use Prim.Native.Nat.{ℕ, _+_, _≤_, _<_}
 use native.Mathlib.Nat.{le-trans}
 use native.Mathlib.Omega.{arith}
 use lib.Dec.{eqb}
 use lib.ListN.{length, getD, set, length-set}
 use lib.Seq.{getD-set-same, getD-set-other}
+use Rattle.semantics.proofs.Lists.Logic.{lt-or-le}
 use Rattle.player.specs.Work.{Memo, KeptFrom, Unworked, met}
 
 -- ---- what is kept from a place on
@@ -27,6 +29,20 @@ kept-weaken place place′ before work l f = λ j m. f j (le-trans l m)
 
 pub kept-set : (place j n : ℕ) (work : List ℕ) → j < place → KeptFrom place work (set work j n)
 kept-set place j n work l = λ k m. getD-set-other work j k n 0 (λ (e : k ≡ j). omega arith)
+
+-- ---- places filled one after the other
+
+-- the places from `base` on have what f says, one more than before
+pub filled-more : (base n word : ℕ) (f : ℕ → ℕ) (work : List ℕ) → word ≡ f n → base + n < length work
+    → ((k : ℕ) → k < n → getD work (base + k) 0 ≡ f k)
+    → (k : ℕ) → k < n + 1 → getD (set work (base + n) word) (base + k) 0 ≡ f k
+filled-more base n word f work right inside before k l = elim (lt-or-le k n) [
+  | inl m ↦ getD-set-other work (base + n) (base + k) word 0 (λ (e : base + k ≡ base + n). omega arith) ∙ before k m
+  | inr m ↦
+      let e : n ≡ k = omega arith in
+      subst (λ (x : ℕ). getD (set work (base + n) word) (base + x) 0 ≡ f x) e
+      (getD-set-same work (base + n) word 0 inside ∙ right)
+]
 
 -- ---- the number of marks and the flag
 

@@ -12,7 +12,7 @@ use Rattle.semantics.specs.Program.{Program}
 abbrev pub widthAt : List ℕ → ℕ → ℕ
 widthAt widths v = getD widths v 0
 
--- What variable v keeps of a value that is stored to it: the value modulo two to the power of its width.
+-- What variable v keeps of a value that is stored to it: as many low bits as v is wide.
 abbrev pub truncated : List ℕ → ℕ → ℕ → ℕ
 truncated widths v value = value % 2 ^ widthAt widths v
 
@@ -24,6 +24,6 @@ unfoldable pub widthsOk : Program → Bool
 widthsOk P =
     eqb (length (P .widths)) (P .variables) && every (λ v. widthOk (widthAt (P .widths) v)) (below (P .variables))
 
--- ---- the values' part of question 6: every value is below two to the power of its variable's width
+-- ---- the values' part of question 6: each value has no more bits than its variable
 unfoldable pub valuesInRange : List ℕ → List ℕ → Bool
 valuesInRange widths values = every (λ v. ltb (getD values v 0) (2 ^ widthAt widths v)) (below (length values))

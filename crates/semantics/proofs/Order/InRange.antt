@@ -1,5 +1,5 @@
 -- The values of a well-formed state are in the range of their widths, and so are those that a cycle stores: a variable
--- keeps a value modulo two to the power of its width.
+-- keeps of a value its low bits, as many as its width.
 use mathlib.Core.Path.{_≡_, refl, sym, subst}
 use mathlib.Core.Bool.{Bool, true, false, cond}
 use mathlib.Core.List.{List, [], _∷_, foldl}

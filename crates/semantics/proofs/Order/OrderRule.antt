@@ -20,7 +20,7 @@ use Rattle.semantics.proofs.Run.RunLaws.{answerOf}
 use Rattle.semantics.proofs.Order.OrderOverCycles.{order-over-cycles}
 use Rattle.semantics.proofs.Order.CycleOrder.{any-entries, leaves-ready}
 
--- with questions 1 to 6 answered yes, run's answer is that of the cycles
+-- with the questions before the first cycle answered yes, run's answer is that of the cycles
 pub answer-of-run : (P : Program) → checkNumber P ≡ 0 → (s : State) → Ready P s → (n : ℕ) (book : List ℕ)
     → runAnswer P n s book ≡ answerOf (run P n s book)
 unfolding runAnswer checkNumber
