@@ -17,9 +17,7 @@ pub use plain::{
     wrapping, zero_cycles,
 };
 
-use crate::expression::Expressions;
 use crate::program::{Program, State};
-use crate::statement::Statement;
 
 /// A program with starting values, and what the calls give for it.
 pub struct Paper {
@@ -72,15 +70,6 @@ pub fn all() -> Vec<Paper> {
 
 pub fn limits() -> Vec<Limit> {
     vec![n_1024(), n_1025(), depth_32(), depth_33()]
-}
-
-fn program(exprs: Expressions, root: Statement, vars: u16, chans: u16) -> Program {
-    Program {
-        exprs: exprs.list,
-        nodes: root.nodes(),
-        vars,
-        chans,
-    }
 }
 
 /// A state given by its marked nodes and by the thread counts that are not 0.

@@ -1,5 +1,8 @@
 //! The lists that the calls take. Any lists can be held, also ones that no call accepts.
 
+use crate::expression::Expressions;
+use crate::statement::Statement;
+
 pub const SEQ: u16 = 1;
 pub const PAR: u16 = 2;
 pub const ASG: u16 = 3;
@@ -34,6 +37,15 @@ pub struct State {
 }
 
 impl Program {
+    pub fn new(exprs: Expressions, root: Statement, vars: u16, chans: u16) -> Program {
+        Program {
+            exprs: exprs.list,
+            nodes: root.nodes(),
+            vars,
+            chans,
+        }
+    }
+
     pub fn expr_count(&self) -> usize {
         self.exprs.len() / 3
     }

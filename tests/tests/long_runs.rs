@@ -142,12 +142,7 @@ fn hold_longest(name: &str, program: &Program, start: &State) {
 }
 
 fn begun(exprs: Expressions, threads: Vec<Statement>) -> (Program, State) {
-    let program = Program {
-        exprs: exprs.list,
-        nodes: Par(threads).nodes(),
-        vars: 4,
-        chans: 1,
-    };
+    let program = Program::new(exprs, Par(threads), 4, 1);
     let start = reference::begun(&program, &[0; 4]).expect("no loop is met at once");
     (program, start)
 }

@@ -156,13 +156,7 @@ fn the_longest_run() {
     let v0 = exprs.variable(0);
     let more = exprs.sum(v0, one);
     let body = Statement::Par(vec![Statement::Asg(0, more), Statement::Asg(1, v0)]);
-    let nodes = Statement::Whl(one, Box::new(body)).nodes();
-    let program = Program {
-        exprs: exprs.list,
-        nodes,
-        vars: 2,
-        chans: 0,
-    };
+    let program = Program::new(exprs, Statement::Whl(one, Box::new(body)), 2, 0);
     let state = State {
         values: vec![5, 0],
         marks: vec![0, 0, 1, 1],

@@ -82,15 +82,6 @@ impl Greatest {
     }
 }
 
-fn program(exprs: Expressions, root: Statement, vars: u16, chans: u16) -> Program {
-    Program {
-        exprs: exprs.list,
-        nodes: root.nodes(),
-        vars,
-        chans,
-    }
-}
-
 /// A formula of so many levels over variable 0, whose value changes with the variable.
 fn formula(exprs: &mut Expressions, one: u16, levels: usize) -> u16 {
     let mut last = exprs.variable(0);
@@ -131,7 +122,7 @@ fn deep(random: &mut Random, levels: usize) -> Program {
     while depth(&inner) < MOST_DEPTH - 1 {
         inner = around(random, one, zero, inner);
     }
-    program(exprs, Whl(one, Box::new(inner)), 1, 0)
+    Program::new(exprs, Whl(one, Box::new(inner)), 1, 0)
 }
 
 /// 32 levels that are all of one form, so that all of them are entered by the same calls.
@@ -145,7 +136,7 @@ fn uniform(levels: usize, around: impl Fn(u16, Statement) -> Statement) -> Progr
     while depth(&inner) < MOST_DEPTH - 1 {
         inner = around(one, inner);
     }
-    program(exprs, Whl(one, Box::new(inner)), 1, 0)
+    Program::new(exprs, Whl(one, Box::new(inner)), 1, 0)
 }
 
 fn depth(statement: &Statement) -> usize {
@@ -167,7 +158,7 @@ fn wide() -> Program {
         256..=511 => Out(i - 256, one),
         _ => Dly,
     });
-    program(exprs, Par(leaves.collect()), 256, 256)
+    Program::new(exprs, Par(leaves.collect()), 256, 256)
 }
 
 /// 128 marks on channels, some of which wait, with a formula for each OUT.
@@ -184,7 +175,7 @@ fn channels(levels: usize) -> Program {
         }
     }
     threads.extend((100..103).map(|channel| Out(channel, sent)));
-    program(exprs, Par(threads), 64, 128)
+    Program::new(exprs, Par(threads), 64, 128)
 }
 
 /// All 1,024 expressions, each right side with a formula of its own over the one before.
@@ -199,7 +190,7 @@ fn shared_formulas() -> Program {
         }
         stores.push(Whl(one, Box::new(Asg(variable, last))));
     }
-    program(exprs, Par(stores), 256, 0)
+    Program::new(exprs, Par(stores), 256, 0)
 }
 
 /// Refused with 10 in its second cycle, with all 1,024 nodes in use.
@@ -210,7 +201,7 @@ fn late_loop() -> Program {
     let less = exprs.difference(v0, one);
     let mut threads = vec![Whl(one, Box::new(Whl(v0, Box::new(Asg(0, less)))))];
     threads.extend(vec![Whl(one, Box::new(Dly)); 500]);
-    program(exprs, Par(threads), 1, 0)
+    Program::new(exprs, Par(threads), 1, 0)
 }
 
 fn measure_large(greatest: &mut Greatest) {

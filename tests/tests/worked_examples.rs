@@ -8,19 +8,10 @@
 use pahmozil_tests::expression::Expressions;
 use pahmozil_tests::program::{Program, State};
 use pahmozil_tests::reference;
-use pahmozil_tests::statement::Statement::{self, Asg, Dly, If, In, Out, Par, Seq, Whl};
+use pahmozil_tests::statement::Statement::{Asg, Dly, If, In, Out, Par, Seq, Whl};
 
 /// A start value that no example states.
 const ANY: u16 = 40_000;
-
-fn program(exprs: Expressions, root: Statement, vars: u16, chans: u16) -> Program {
-    Program {
-        exprs: exprs.list,
-        nodes: root.nodes(),
-        vars,
-        chans,
-    }
-}
 
 fn begin(program: &Program, values: &[u16]) -> State {
     reference::begun(program, values).expect("the example begins")
@@ -58,7 +49,7 @@ fn report_section_5_4_2_changes_of_different_variables_combine() {
     let mut exprs = Expressions::new();
     let three = exprs.number(3);
     let four = exprs.number(4);
-    let program = program(exprs, Par(vec![Asg(0, three), Asg(1, four)]), 2, 0);
+    let program = Program::new(exprs, Par(vec![Asg(0, three), Asg(1, four)]), 2, 0);
     assert_eq!(worlds(&program, &[ANY, ANY]), [[3, 4]]);
 }
 
@@ -68,7 +59,7 @@ fn report_section_5_4_2_two_changes_of_one_variable_are_an_error() {
         let mut exprs = Expressions::new();
         let left = exprs.number(p);
         let right = exprs.number(q);
-        let program = program(exprs, Par(vec![Asg(0, left), Asg(0, right)]), 1, 0);
+        let program = Program::new(exprs, Par(vec![Asg(0, left), Asg(0, right)]), 1, 0);
         let start = begin(&program, &[ANY]);
         assert_eq!(cycle(&program, &start), (9, start));
     }
@@ -80,7 +71,7 @@ fn report_section_5_4_2_two_expressions_on_one_channel_are_an_error() {
     let one = exprs.number(1);
     let two = exprs.number(2);
     let threads = vec![Out(0, one), Out(0, two), In(0, 0)];
-    let program = program(exprs, Par(threads), 1, 1);
+    let program = Program::new(exprs, Par(threads), 1, 1);
     let start = begin(&program, &[ANY]);
     assert_eq!(cycle(&program, &start), (8, start));
 }
@@ -98,7 +89,7 @@ fn report_section_9_1_parallel_interference() {
     let difference = exprs.difference(y, x);
     let left = Seq(vec![Asg(0, one), Asg(0, sum)]);
     let right = Seq(vec![Asg(1, two), Asg(1, difference)]);
-    let program = program(exprs, Par(vec![left, right]), 2, 0);
+    let program = Program::new(exprs, Par(vec![left, right]), 2, 0);
     assert_eq!(worlds(&program, &[ANY, ANY]), [[1, 2], [3, 1]]);
 }
 
@@ -114,7 +105,7 @@ fn report_section_9_2_delayed_communication() {
     let more = exprs.sum(y, one);
     let left = Seq(vec![Asg(0, five), Out(0, x)]);
     let right = Seq(vec![In(0, 1), Asg(1, more)]);
-    let program = program(exprs, Par(vec![left, right]), 2, 1);
+    let program = Program::new(exprs, Par(vec![left, right]), 2, 1);
     assert_eq!(worlds(&program, &[ANY, ANY]), [[5, ANY], [5, 5], [5, 6]]);
 }
 
@@ -132,7 +123,7 @@ fn parallel_factorial(of: u16) -> Program {
     let (one, start, again, product, less) = factorial_expressions(&mut exprs, of);
     let before = Par(vec![Asg(0, one), Asg(1, start)]);
     let body = Par(vec![Asg(0, product), Asg(1, less)]);
-    program(exprs, Seq(vec![before, Whl(again, Box::new(body))]), 2, 0)
+    Program::new(exprs, Seq(vec![before, Whl(again, Box::new(body))]), 2, 0)
 }
 
 fn sequential_factorial(of: u16) -> Program {
@@ -140,7 +131,7 @@ fn sequential_factorial(of: u16) -> Program {
     let (one, start, again, product, less) = factorial_expressions(&mut exprs, of);
     let body = Seq(vec![Asg(0, product), Asg(1, less)]);
     let root = Seq(vec![Asg(1, start), Asg(0, one), Whl(again, Box::new(body))]);
-    program(exprs, root, 2, 0)
+    Program::new(exprs, root, 2, 0)
 }
 
 /// 1, the start value, x > 1, f * x and x - 1.
@@ -164,7 +155,7 @@ fn report_section_9_4_a_true_loop_around_a_false_one_never_ticks() {
     let yes = exprs.number(1);
     let no = exprs.number(0);
     let root = Whl(yes, Box::new(Whl(no, Box::new(Asg(0, yes)))));
-    let program = program(exprs, root, 1, 0);
+    let program = Program::new(exprs, root, 1, 0);
     assert_eq!(reference::begun(&program, &[ANY]), Err(10));
 }
 
@@ -174,7 +165,7 @@ fn report_section_9_4_with_a_delay_beside_it_each_turn_takes_a_cycle() {
     let yes = exprs.number(1);
     let no = exprs.number(0);
     let body = Par(vec![Whl(no, Box::new(Asg(0, yes))), Dly]);
-    let program = program(exprs, Whl(yes, Box::new(body)), 1, 0);
+    let program = Program::new(exprs, Whl(yes, Box::new(body)), 1, 0);
     let start = begin(&program, &[ANY]);
     let mut state = start.clone();
     for _ in 0..100 {
@@ -192,7 +183,7 @@ fn thesis_section_2_1_1_par_goes_on_once_all_branches_have_finished() {
     let mut exprs = Expressions::new();
     let one = exprs.number(1);
     let branches = Par(vec![Dly, Seq(vec![Dly, Dly, Dly]), Seq(vec![Dly, Dly])]);
-    let program = program(exprs, Seq(vec![branches, Asg(0, one)]), 1, 0);
+    let program = Program::new(exprs, Seq(vec![branches, Asg(0, one)]), 1, 0);
     assert_eq!(worlds(&program, &[ANY]), [[ANY], [ANY], [ANY], [1]]);
 }
 
@@ -201,7 +192,7 @@ fn thesis_section_2_1_1_swap_in_a_single_clock_step() {
     let mut exprs = Expressions::new();
     let a = exprs.variable(0);
     let b = exprs.variable(1);
-    let program = program(exprs, Par(vec![Asg(0, b), Asg(1, a)]), 2, 0);
+    let program = Program::new(exprs, Par(vec![Asg(0, b), Asg(1, a)]), 2, 0);
     assert_eq!(worlds(&program, &[11, 22]), [[22, 11]]);
 }
 
@@ -211,7 +202,7 @@ fn thesis_section_2_1_1_one_variable_is_assigned_once_but_read_often() {
     let a = exprs.variable(0);
     let one = exprs.number(1);
     let reads = Par(vec![Asg(0, one), Asg(1, a), Asg(2, a)]);
-    let program = program(exprs, reads, 3, 0);
+    let program = Program::new(exprs, reads, 3, 0);
     assert_eq!(worlds(&program, &[7, ANY, ANY]), [[1, 7, 7]]);
 }
 
@@ -237,7 +228,7 @@ fn thesis_section_2_1_1_channel_communication_waits_for_both_branches() {
     let one = exprs.number(1);
     let branch_1 = Seq(vec![Dly, Dly, In(0, 0)]);
     let branch_2 = Seq(vec![Out(0, data), Asg(1, one)]);
-    let program = program(exprs, Par(vec![branch_1, branch_2]), 2, 1);
+    let program = Program::new(exprs, Par(vec![branch_1, branch_2]), 2, 1);
     let stays = [ANY, ANY];
     assert_eq!(worlds(&program, &stays), [stays, stays, [9, ANY], [9, 1]]);
 }
@@ -283,7 +274,7 @@ fn thesis_section_3_1_both_branches_read_the_old_world() {
     let p = If(above, vec![Asg(0, minus_one)]);
     let q = If(not_above, vec![Asg(1, one), Asg(1, two)]);
     for threads in [vec![p.clone(), q.clone()], vec![q, p]] {
-        let program = program(exprs.clone(), Par(threads), 2, 0);
+        let program = Program::new(exprs.clone(), Par(threads), 2, 0);
         assert_eq!(worlds(&program, &[1, ANY]), [[65535, 2]]);
     }
 }
@@ -298,7 +289,7 @@ fn thesis_section_6_2_1_while_from_2_makes_two_steps() {
     let x = exprs.variable(0);
     let above = exprs.below(zero, x);
     let less = exprs.difference(x, one);
-    let program = program(exprs, Whl(above, Box::new(Asg(0, less))), 1, 0);
+    let program = Program::new(exprs, Whl(above, Box::new(Asg(0, less))), 1, 0);
     assert_eq!(worlds(&program, &[2]), [[1], [0]]);
 }
 
@@ -311,7 +302,7 @@ fn thesis_section_6_2_1_while_makes_as_many_steps_as_x() {
     let x = exprs.variable(0);
     let above = exprs.below(zero, x);
     let less = exprs.difference(x, one);
-    let program = program(exprs, Whl(above, Box::new(Asg(0, less))), 1, 0);
+    let program = Program::new(exprs, Whl(above, Box::new(Asg(0, less))), 1, 0);
     for start in 0..4 {
         assert_eq!(worlds(&program, &[start]).len(), start as usize);
     }

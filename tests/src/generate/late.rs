@@ -52,12 +52,7 @@ impl Maker<'_> {
     }
 
     fn begun(self, root: Statement) -> (Program, State) {
-        let program = Program {
-            exprs: self.exprs.list,
-            nodes: root.nodes(),
-            vars: self.starts.len() as u16,
-            chans: self.chans,
-        };
+        let program = Program::new(self.exprs, root, self.starts.len() as u16, self.chans);
         let state = reference::begun(&program, &self.starts).expect("no loop is met at once");
         (program, state)
     }

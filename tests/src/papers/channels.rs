@@ -1,7 +1,8 @@
 //! Papers with a channel.
 
-use super::{program, state, Paper, Run};
+use super::{state, Paper, Run};
 use crate::expression::Expressions;
+use crate::program::Program;
 use crate::statement::Statement::{Asg, Dly, In, Out, Par, Seq};
 
 /// PAR{IN c0 v0; a sequence of DLY and OUT c0 5}
@@ -9,7 +10,7 @@ pub fn delayed_out() -> Paper {
     let mut exprs = Expressions::new();
     let five = exprs.number(5);
     let root = Par(vec![In(0, 0), Seq(vec![Dly, Out(0, five)])]);
-    let program = program(exprs, root, 1, 1);
+    let program = Program::new(exprs, root, 1, 1);
     let start = state(&program, &[0], &[1, 3], &[(0, 2)]);
     let one_later = state(&program, &[0], &[1, 4], &[(0, 2)]);
     let ended = state(&program, &[5], &[], &[]);
@@ -36,7 +37,7 @@ pub fn delayed_out() -> Paper {
 
 /// PAR of two IN on c0.
 pub fn two_in_on_one_channel() -> Paper {
-    let program = program(Expressions::new(), Par(vec![In(0, 0), In(0, 1)]), 2, 1);
+    let program = Program::new(Expressions::new(), Par(vec![In(0, 0), In(0, 1)]), 2, 1);
     let start = state(&program, &[0, 0], &[1, 2], &[(0, 2)]);
     Paper {
         name: "two IN on one channel",
@@ -59,7 +60,7 @@ pub fn two_in_on_one_channel() -> Paper {
 pub fn waiting_in_is_no_store() -> Paper {
     let mut exprs = Expressions::new();
     let one = exprs.number(1);
-    let program = program(exprs, Par(vec![In(0, 0), Asg(0, one)]), 1, 1);
+    let program = Program::new(exprs, Par(vec![In(0, 0), Asg(0, one)]), 1, 1);
     let start = state(&program, &[0], &[1, 2], &[(0, 2)]);
     let waiting = state(&program, &[1], &[1], &[(0, 1)]);
     Paper {

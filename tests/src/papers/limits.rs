@@ -1,12 +1,12 @@
 //! The limits of N and of depth.
 
-use super::{program, Limit};
+use super::Limit;
 use crate::expression::Expressions;
 use crate::program::Program;
 use crate::statement::Statement::{self, Dly, Par, Seq};
 
 fn of_nodes(n: usize) -> Program {
-    program(Expressions::new(), Par(vec![Dly; n - 1]), 0, 0)
+    Program::new(Expressions::new(), Par(vec![Dly; n - 1]), 0, 0)
 }
 
 fn of_depth(depth: usize) -> Program {
@@ -14,7 +14,7 @@ fn of_depth(depth: usize) -> Program {
     for _ in 1..depth {
         statement = Seq(vec![statement]);
     }
-    program(Expressions::new(), statement, 0, 0)
+    Program::new(Expressions::new(), statement, 0, 0)
 }
 
 pub fn n_1024() -> Limit {

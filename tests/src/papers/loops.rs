@@ -1,7 +1,8 @@
 //! Papers with WHL.
 
-use super::{program, state, Paper, Run};
+use super::{state, Paper, Run};
 use crate::expression::Expressions;
+use crate::program::Program;
 use crate::statement::Statement::{Asg, Dly, Par, Seq, Whl};
 
 /// WHL 1 {WHL 0 {DLY}}
@@ -9,7 +10,7 @@ pub fn loop_around_false_loop() -> Paper {
     let mut exprs = Expressions::new();
     let one = exprs.number(1);
     let zero = exprs.number(0);
-    let program = program(exprs, Whl(one, Box::new(Whl(zero, Box::new(Dly)))), 0, 0);
+    let program = Program::new(exprs, Whl(one, Box::new(Whl(zero, Box::new(Dly)))), 0, 0);
     let start = state(&program, &[], &[], &[]);
     Paper {
         name: "a true loop around a false one",
@@ -26,7 +27,7 @@ pub fn par_of_false_loops() -> Paper {
     let mut exprs = Expressions::new();
     let zero = exprs.number(0);
     let false_loop = || Whl(zero, Box::new(Dly));
-    let program = program(exprs, Par(vec![false_loop(), false_loop()]), 0, 0);
+    let program = Program::new(exprs, Par(vec![false_loop(), false_loop()]), 0, 0);
     let ended = state(&program, &[], &[], &[]);
     Paper {
         name: "a PAR of two false loops",
@@ -48,7 +49,7 @@ pub fn par_of_false_loops() -> Paper {
 pub fn loop_around_par() -> Paper {
     let mut exprs = Expressions::new();
     let one = exprs.number(1);
-    let program = program(exprs, Whl(one, Box::new(Par(vec![Dly, Dly]))), 0, 0);
+    let program = Program::new(exprs, Whl(one, Box::new(Par(vec![Dly, Dly]))), 0, 0);
     let start = state(&program, &[], &[2, 3], &[(1, 2)]);
     let run = |schedule: Vec<u16>, cycles: u16| Run {
         schedule,
@@ -77,7 +78,7 @@ pub fn countdown() -> Paper {
     let v0 = exprs.variable(0);
     let one = exprs.number(1);
     let less = exprs.difference(v0, one);
-    let program = program(exprs, Whl(v0, Box::new(Asg(0, less))), 1, 0);
+    let program = Program::new(exprs, Whl(v0, Box::new(Asg(0, less))), 1, 0);
     let start = state(&program, &[1], &[1], &[]);
     let ended = state(&program, &[0], &[], &[]);
     Paper {
@@ -103,7 +104,7 @@ pub fn loop_becomes_zero_time() -> Paper {
     let v0 = exprs.variable(0);
     let zero = exprs.number(0);
     let inner = Whl(v0, Box::new(Asg(0, zero)));
-    let program = program(exprs, Whl(one, Box::new(Seq(vec![inner]))), 1, 0);
+    let program = Program::new(exprs, Whl(one, Box::new(Seq(vec![inner]))), 1, 0);
     let start = state(&program, &[1], &[3], &[]);
     Paper {
         name: "a loop that becomes a zero-time loop",
@@ -128,7 +129,7 @@ pub fn stored_condition() -> Paper {
     let zero = exprs.number(0);
     let v0 = exprs.variable(0);
     let root = Par(vec![Asg(0, zero), Whl(v0, Box::new(Dly))]);
-    let program = program(exprs, root, 1, 0);
+    let program = Program::new(exprs, root, 1, 0);
     let start = state(&program, &[1], &[1, 3], &[(0, 2)]);
     let ended = state(&program, &[0], &[], &[]);
     let run = |schedule: Vec<u16>| Run {

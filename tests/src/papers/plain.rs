@@ -1,13 +1,13 @@
 //! Papers of DLY and assignments, without loops or channels.
 
-use super::{program, state, Paper, Run};
+use super::{state, Paper, Run};
 use crate::expression::Expressions;
 use crate::program::{Program, State};
 use crate::statement::Statement::{Asg, Dly, Par, Seq};
 
 /// One DLY.
 pub fn one_dly() -> Paper {
-    let program = program(Expressions::new(), Dly, 0, 0);
+    let program = Program::new(Expressions::new(), Dly, 0, 0);
     let start = state(&program, &[], &[0], &[]);
     let ended = state(&program, &[], &[], &[]);
     Paper {
@@ -31,7 +31,7 @@ fn swap_program() -> Program {
     let mut exprs = Expressions::new();
     let v0 = exprs.variable(0);
     let v1 = exprs.variable(1);
-    program(exprs, Par(vec![Asg(0, v1), Asg(1, v0)]), 2, 0)
+    Program::new(exprs, Par(vec![Asg(0, v1), Asg(1, v0)]), 2, 0)
 }
 
 pub fn swap() -> Paper {
@@ -80,7 +80,7 @@ fn conflict(name: &'static str, p: u16, q: u16) -> Paper {
     let mut exprs = Expressions::new();
     let left = exprs.number(p);
     let right = exprs.number(q);
-    let program = program(exprs, Par(vec![Asg(0, left), Asg(0, right)]), 1, 0);
+    let program = Program::new(exprs, Par(vec![Asg(0, left), Asg(0, right)]), 1, 0);
     let start = state(&program, &[0], &[1, 2], &[(0, 2)]);
     Paper {
         name,
@@ -115,7 +115,7 @@ pub fn wrapping() -> Paper {
     let zero = exprs.number(0);
     let sum = exprs.sum(most, one);
     let difference = exprs.difference(zero, one);
-    let program = program(exprs, Par(vec![Asg(0, sum), Asg(1, difference)]), 2, 0);
+    let program = Program::new(exprs, Par(vec![Asg(0, sum), Asg(1, difference)]), 2, 0);
     let start = state(&program, &[9, 9], &[1, 2], &[(0, 2)]);
     let ended = state(&program, &[0, 65535], &[], &[]);
     Paper {
@@ -157,7 +157,7 @@ pub fn zero_cycles() -> Paper {
 /// two; only then comes the last DLY, node 6.
 pub fn uneven_threads() -> Paper {
     let threads = Par(vec![Dly, Seq(vec![Dly, Dly])]);
-    let program = program(Expressions::new(), Seq(vec![threads, Dly]), 0, 0);
+    let program = Program::new(Expressions::new(), Seq(vec![threads, Dly]), 0, 0);
     let start = state(&program, &[], &[2, 4], &[(1, 2)]);
     let one_thread = state(&program, &[], &[5], &[(1, 1)]);
     let past_the_par = state(&program, &[], &[6], &[]);

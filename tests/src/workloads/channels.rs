@@ -16,12 +16,7 @@ pub fn channel_pairs() -> Workload {
         threads.push(endless(one, out));
         threads.push(endless(one, Statement::In(pair, pair)));
     }
-    let program = Program {
-        exprs: exprs.list,
-        nodes: Statement::Par(threads).nodes(),
-        vars: 64,
-        chans: 64,
-    };
+    let program = Program::new(exprs, Statement::Par(threads), 64, 64);
     workload("64 channel pairs", 1_000, program)
 }
 
@@ -31,11 +26,6 @@ pub fn waiting_inputs() -> Workload {
     let one = exprs.number(1);
     let mut threads = vec![endless(one, count_up(&mut exprs, one, 0))];
     threads.extend((0..64).map(|channel| Statement::In(channel, channel + 1)));
-    let program = Program {
-        exprs: exprs.list,
-        nodes: Statement::Par(threads).nodes(),
-        vars: 65,
-        chans: 64,
-    };
+    let program = Program::new(exprs, Statement::Par(threads), 65, 64);
     workload("64 waiting inputs and a counter", 2_500, program)
 }

@@ -12,12 +12,7 @@ pub fn looping_assignments() -> Workload {
     let threads = (0..250)
         .map(|variable| endless(one, count_up(&mut exprs, one, variable)))
         .collect();
-    let program = Program {
-        exprs: exprs.list,
-        nodes: Statement::Par(threads).nodes(),
-        vars: 250,
-        chans: 0,
-    };
+    let program = Program::new(exprs, Statement::Par(threads), 250, 0);
     workload("250 looping assignments", 1_000, program)
 }
 
@@ -31,12 +26,7 @@ pub fn sequences(name: &'static str, statements: usize) -> Workload {
         let leaf = count_up(&mut exprs, one, variable);
         endless(one, Statement::Seq(vec![leaf; length]))
     });
-    let program = Program {
-        exprs: exprs.list,
-        nodes: Statement::Par(threads.to_vec()).nodes(),
-        vars: 2,
-        chans: 0,
-    };
+    let program = Program::new(exprs, Statement::Par(threads.to_vec()), 2, 0);
     workload(name, 30_000, program)
 }
 
@@ -60,12 +50,7 @@ fn chain_of(name: &'static str, cycles: u16, count: usize) -> Workload {
     let three = exprs.number(3);
     let first = exprs.variable(0);
     let last = extend(&mut exprs, first, one, three, count);
-    let program = Program {
-        exprs: exprs.list,
-        nodes: endless(one, Statement::Asg(0, last)).nodes(),
-        vars: 1,
-        chans: 0,
-    };
+    let program = Program::new(exprs, endless(one, Statement::Asg(0, last)), 1, 0);
     workload(name, cycles, program)
 }
 
@@ -91,11 +76,6 @@ pub fn needed() -> Workload {
         Statement::Asg(0, exprs.sum(v0, one)),
         Statement::Asg(1, exprs.sum(v1, three)),
     ];
-    let program = Program {
-        exprs: exprs.list,
-        nodes: endless(one, Statement::Par(stores)).nodes(),
-        vars: 2,
-        chans: 0,
-    };
+    let program = Program::new(exprs, endless(one, Statement::Par(stores)), 2, 0);
     workload("1,000 expressions, two needed", 30_000, program)
 }

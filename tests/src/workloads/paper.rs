@@ -15,13 +15,9 @@ pub fn exam_paper() -> Workload {
     let (sends, receives) = (Out(1, one), In(1, 8));
     let [first, second] = choices(&mut exprs, one);
     let bodies = [sender, receiver, sends, receives, first, second, Dly];
-    let threads = counters.into_iter().chain(bodies);
-    let program = Program {
-        exprs: exprs.list,
-        nodes: Par(threads.map(|body| endless(one, body)).collect()).nodes(),
-        vars: 9,
-        chans: 2,
-    };
+    let bodies = counters.into_iter().chain(bodies);
+    let threads = bodies.map(|body| endless(one, body)).collect();
+    let program = Program::new(exprs, Par(threads), 9, 2);
     workload("exam paper: 30 nodes, ten active", 10_000, program)
 }
 

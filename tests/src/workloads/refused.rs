@@ -22,12 +22,7 @@ pub fn refused_at_the_end() -> Workload {
     let counts = Statement::Asg(0, exprs.sum(v0, one));
     let inner = Statement::Whl(goes_on, Box::new(counts));
     threads.push(endless(one, inner));
-    let program = Program {
-        exprs: exprs.list,
-        nodes: Statement::Par(threads).nodes(),
-        vars: 10,
-        chans: 0,
-    };
+    let program = Program::new(exprs, Statement::Par(threads), 10, 0);
     Workload {
         answer: (10, WORKED),
         ..workload("long run, refused with 10 at its end", 65_535, program)

@@ -12,12 +12,7 @@ pub fn swap_loop() -> Workload {
     let first = Statement::Asg(0, exprs.variable(1));
     let second = Statement::Asg(1, exprs.variable(0));
     let root = endless(one, Statement::Par(vec![first, second]));
-    let program = Program {
-        exprs: exprs.list,
-        nodes: root.nodes(),
-        vars: 2,
-        chans: 0,
-    };
+    let program = Program::new(exprs, root, 2, 0);
     workload("swap loop of two assignments", 65_535, program)
 }
 
@@ -28,12 +23,7 @@ fn nested(name: &'static str, mut exprs: Expressions, condition: u16) -> Workloa
     for _ in 0..(MOST_DEPTH - 2) / 2 {
         body = Statement::Seq(vec![Statement::If(condition, vec![body])]);
     }
-    let program = Program {
-        exprs: exprs.list,
-        nodes: endless(condition, body).nodes(),
-        vars: 2,
-        chans: 0,
-    };
+    let program = Program::new(exprs, endless(condition, body), 2, 0);
     workload(name, 30_000, program)
 }
 
@@ -63,11 +53,6 @@ pub fn choices() -> Workload {
         let condition = exprs.both_bits(v0, bit);
         body = Statement::If(condition, vec![body.clone(), body]);
     }
-    let program = Program {
-        exprs: exprs.list,
-        nodes: endless(one, body).nodes(),
-        vars: 1,
-        chans: 0,
-    };
+    let program = Program::new(exprs, endless(one, body), 1, 0);
     workload("nested choices", 30_000, program)
 }
