@@ -7,6 +7,7 @@ fn main() {
     let swap = Program {
         exprs: vec![1, 0, 0, 1, 1, 0],
         nodes: vec![2, 65535, 3, 0, 0, 3, 0, 2, 0, 1, 3, 0, 3, 1, 0],
+        widths: vec![12, 12],
         vars: 2,
         chans: 0,
     };
@@ -18,7 +19,7 @@ fn main() {
         };
         let begun = player::begin(&swap, &state.values, &mut state.marks, &mut state.counts);
         if begun.number != 0 {
-            println!("begin: question {}", begun.number);
+            println!("begin: number {}", begun.number);
             continue;
         }
         let (answer, worked) = player::run(&swap, &mut state, &book, 5);

@@ -10,6 +10,7 @@ mod schedule;
 mod shape;
 mod state;
 mod values;
+mod widths;
 
 pub use damage::{changes, damage, rubbish, tight_limits};
 pub use late::late;
@@ -17,4 +18,5 @@ pub use program::program;
 pub use schedule::{flawed_schedule, right_schedule, schedule};
 pub use shape::{shape, small_shape, Shape};
 pub use state::{counts_for, damaged_state, reached_state, well_formed_state};
-pub use values::values;
+pub use values::{values, widen};
+pub use widths::other_widths;

@@ -52,7 +52,7 @@ fn run_on(
     compiled: bool,
 ) -> (u16, u16) {
     if !takes(program, state) {
-        // Which of the first six questions is broken need not be found quickly.
+        // Which of the questions before the first cycle is broken need not be found quickly.
         let (number, worked, _) = reference::run(program, state, schedule, cycles);
         return (number, worked);
     }
@@ -70,7 +70,7 @@ fn run_on(
     answer
 }
 
-/// Whether questions 1 to 6 are all answered with yes.
+/// Whether all the questions that come before the first cycle are answered with yes.
 pub fn takes(program: &Program, state: &State) -> bool {
     accept::accepted(program)
         && well_formed::fits(program, state)

@@ -17,6 +17,8 @@ pub const MOST_EXPRS: usize = 1024;
 pub const MOST_VARS: u16 = 256;
 pub const MOST_CHANS: u16 = 256;
 pub const MOST_DEPTH: usize = 32;
+/// In bits.
+pub const MOST_WIDTH: u16 = 16;
 
 /// What node 0 has in place of a parent.
 pub const NO_PARENT: u16 = 65535;
@@ -25,6 +27,7 @@ pub const NO_PARENT: u16 = 65535;
 pub struct Program {
     pub exprs: Vec<u16>,
     pub nodes: Vec<u16>,
+    pub widths: Vec<u16>,
     pub vars: u16,
     pub chans: u16,
 }
@@ -37,12 +40,21 @@ pub struct State {
 }
 
 impl Program {
+    /// Each variable is as wide as can be, so that a store keeps all of a value.
     pub fn new(exprs: Expressions, root: Statement, vars: u16, chans: u16) -> Program {
         Program {
             exprs: exprs.list,
             nodes: root.nodes(),
+            widths: vec![MOST_WIDTH; vars as usize],
             vars,
             chans,
+        }
+    }
+
+    pub fn with_widths(self, widths: &[u16]) -> Program {
+        Program {
+            widths: widths.to_vec(),
+            ..self
         }
     }
 

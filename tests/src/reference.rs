@@ -1,4 +1,5 @@
-//! The rules, followed word by word as the rules document has them, without regard to speed.
+//! The rules, followed word by word as the rules document and change request No. 1 (widths) have
+//! them, without regard to speed.
 
 mod begin;
 mod check;
@@ -7,10 +8,10 @@ mod run;
 mod tree;
 mod walk;
 mod well_formed;
+mod widths;
 
 pub use begin::{begin, begun};
 pub use check::{check, expression_fault, name_fault, node_fault};
 pub use evaluate::evaluate;
 pub use run::run;
 pub use tree::Tree;
-pub use well_formed::well_formed;

@@ -2,14 +2,14 @@
 
 pub struct Tally {
     name: &'static str,
-    times: [usize; 11],
+    times: [usize; 12],
 }
 
 impl Tally {
     pub fn new(name: &'static str) -> Tally {
         Tally {
             name,
-            times: [0; 11],
+            times: [0; 12],
         }
     }
 

@@ -7,7 +7,9 @@ mod refused;
 mod small;
 
 pub use channels::{channel_pairs, waiting_inputs};
-pub use lists::{chain, formula, looping_assignments, needed, sequences};
+pub use lists::{
+    chain, formula, looping_assignments, looping_assignments_of_12_bits, needed, sequences,
+};
 pub use paper::exam_paper;
 pub use refused::refused_at_the_end;
 pub use small::{choices, nesting, nesting_on_a_variable, swap_loop};
@@ -32,6 +34,7 @@ pub fn all() -> Vec<Workload> {
     vec![
         swap_loop(),
         looping_assignments(),
+        looping_assignments_of_12_bits(),
         sequences("10 statements, two active", 10),
         sequences("100 statements, two active", 100),
         sequences("1,000 statements, two active", 1_000),

@@ -4,7 +4,7 @@ use pahmozil_tests::compare;
 use pahmozil_tests::generate;
 use pahmozil_tests::papers;
 use pahmozil_tests::player;
-use pahmozil_tests::program::Program;
+use pahmozil_tests::program::{Program, MOST_WIDTH};
 use pahmozil_tests::random::Random;
 use pahmozil_tests::tally::Tally;
 
@@ -39,7 +39,12 @@ fn one_case(random: &mut Random, program: &Program) -> u16 {
         lengths[which] = other_length(random, lengths[which]);
     }
     // Values for every variable that a refused program claims to have would only cost time.
-    let values = generate::values(random, lengths[0].min(300));
+    let mut widths = program.widths.clone();
+    widths.resize(lengths[0].min(300), MOST_WIDTH);
+    let mut values = generate::values(random, &widths);
+    if random.percent(10) {
+        generate::widen(random, &widths, &mut values);
+    }
     let marks = old_marks(random, lengths[1]);
     let counts = old_counts(random, lengths[2]);
     compare::begin(program, &values, &marks, &counts)
@@ -65,7 +70,8 @@ fn random_programs() {
         let program = generate::tight_limits(random);
         tally.meet(one_case(random, &program));
     }
-    tally.demand(&[0, 1, 2, 3, 4, 5, 10], 3_000);
+    tally.demand(&[0, 1, 2, 3, 4, 5, 6, 10, 11], 3_000);
+    assert!(tally.total() >= 200_000);
 }
 
 #[test]

@@ -3,7 +3,7 @@
 use pahmozil_tests::compare;
 use pahmozil_tests::generate;
 use pahmozil_tests::papers;
-use pahmozil_tests::program::Program;
+use pahmozil_tests::program::{Program, MOST_WIDTH};
 use pahmozil_tests::random::Random;
 use pahmozil_tests::tally::Tally;
 
@@ -27,7 +27,7 @@ fn random_lists() {
     }
     while tally.total() < 160_000 {
         each_word_changed(random, tally);
-        each_length_cut(random, tally);
+        each_length_changed(random, tally);
     }
     for _ in 0..60_000 {
         let mut program = if random.percent(20) {
@@ -44,7 +44,7 @@ fn random_lists() {
     for _ in 0..1_500 {
         tally.meet(compare::check(&generate::tight_limits(random)));
     }
-    tally.demand(&[0, 1, 2, 3, 4], 4_000);
+    tally.demand(&[0, 1, 2, 3, 4, 11], 4_000);
     assert!(tally.total() >= 200_000);
 }
 
@@ -64,6 +64,13 @@ fn each_word_changed(random: &mut Random, tally: &mut Tally) {
             tally.meet(compare::check(&other));
         }
     }
+    for at in 0..program.widths.len() {
+        for width in generate::other_widths(random, program.widths[at]) {
+            let mut other = program.clone();
+            other.widths[at] = width;
+            tally.meet(compare::check(&other));
+        }
+    }
     for word in generate::changes(random, &program, program.vars) {
         tally.meet(compare::check(&Program {
             vars: word,
@@ -78,7 +85,7 @@ fn each_word_changed(random: &mut Random, tally: &mut Tally) {
     }
 }
 
-fn each_length_cut(random: &mut Random, tally: &mut Tally) {
+fn each_length_changed(random: &mut Random, tally: &mut Tally) {
     let program = small(random);
     for length in 0..program.exprs.len() {
         let mut other = program.clone();
@@ -90,6 +97,11 @@ fn each_length_cut(random: &mut Random, tally: &mut Tally) {
         other.nodes.truncate(length);
         tally.meet(compare::check(&other));
     }
+    for length in 0..=program.widths.len() + 2 {
+        let mut other = program.clone();
+        other.widths.resize(length, MOST_WIDTH);
+        tally.meet(compare::check(&other));
+    }
 }
 
 #[test]
@@ -97,6 +109,7 @@ fn empty_lists() {
     let program = Program {
         exprs: vec![],
         nodes: vec![],
+        widths: vec![],
         vars: 0,
         chans: 0,
     };

@@ -70,7 +70,7 @@ fn go_on(random: &mut Random, refused: &Refused, tally: &mut Tally) {
     let book = generate::schedule(random, program, left, 6);
     tally.meet(compare::run(program, left, &book, 6).0);
     // With other values the same marks may be worked, for some cycles at least.
-    let values = generate::values(random, left.values.len());
+    let values = generate::values(random, &program.widths);
     let other = State {
         values,
         ..left.clone()

@@ -83,11 +83,11 @@ fn damaged_states_and_programs() {
         let mut lists = state.clone();
         match random.below(3) {
             0 => generate::damage(random, &mut other),
-            1 => generate::damaged_state(random, &mut lists),
+            1 => generate::damaged_state(random, &program, &mut lists),
             _ => {
                 // Two changes can leave the lists well formed again, in another way.
-                generate::damaged_state(random, &mut lists);
-                generate::damaged_state(random, &mut lists);
+                generate::damaged_state(random, &program, &mut lists);
+                generate::damaged_state(random, &program, &mut lists);
             }
         }
         let cycles = cycles_asked(random);

@@ -265,7 +265,7 @@ fn measure_random(greatest: &mut Greatest) {
             (shape.vars, shape.chans) = (256, 256);
         }
         let program = generate::program(random, &shape);
-        let values = generate::values(random, program.vars as usize);
+        let values = generate::values(random, &program.widths);
         greatest.all(&format!("random {case}"), &program, &values, 4);
     }
 }

@@ -1,6 +1,8 @@
 //! Programs that differ from an accepted one, mostly in one place.
 
-use crate::program::{Program, MOST_CHANS, MOST_EXPRS, MOST_NODES, MOST_VARS};
+use super::widths::{damage_widths, widths};
+use crate::expression::Expressions;
+use crate::program::{Program, MOST_CHANS, MOST_EXPRS, MOST_NODES, MOST_VARS, MOST_WIDTH};
 use crate::random::Random;
 use crate::statement::Statement;
 
@@ -32,15 +34,16 @@ pub fn damage(random: &mut Random, program: &mut Program) {
 }
 
 fn damage_once(random: &mut Random, program: &mut Program) {
-    match random.below(20) {
+    match random.below(23) {
         0..=3 => change_word(random, program, false),
         4..=11 => change_word(random, program, true),
         12 | 13 => change_name(random, program),
         14 => cut(random, program),
         15 => extend(random, program),
-        16 => program.vars = other_count(random, program.vars),
+        16 => change_vars(random, program),
         17 => program.chans = other_count(random, program.chans),
         18 => swap_nodes(random, program),
+        19..=21 => damage_widths(random, &mut program.widths),
         _ => *program = rubbish(random, 12),
     }
 }
@@ -122,6 +125,15 @@ fn other_count(random: &mut Random, count: u16) -> u16 {
     random.pick(&to)
 }
 
+/// In half of the cases the widths follow, so that their length stays right.
+fn change_vars(random: &mut Random, program: &mut Program) {
+    program.vars = other_count(random, program.vars);
+    if random.percent(50) {
+        let length = program.vars.min(MOST_VARS + 1) as usize;
+        program.widths.resize(length, MOST_WIDTH);
+    }
+}
+
 fn swap_nodes(random: &mut Random, program: &mut Program) {
     let n = program.node_count();
     if n < 2 {
@@ -154,10 +166,16 @@ pub fn rubbish(random: &mut Random, records: usize) -> Program {
     };
     let exprs = if small { Vec::new() } else { list(3) };
     let nodes = list(5);
+    let vars = random.below(5);
+    let mut widths = widths(random, vars);
+    if random.percent(50) {
+        damage_widths(random, &mut widths);
+    }
     Program {
         exprs,
         nodes,
-        vars: random.below(5) as u16,
+        widths,
+        vars: vars as u16,
         chans: random.below(300) as u16,
     }
 }
@@ -166,18 +184,19 @@ pub fn rubbish(random: &mut Random, records: usize) -> Program {
 pub fn tight_limits(random: &mut Random) -> Program {
     let past = random.below(2);
     let delays = |count: usize| vec![Statement::Dly; count];
-    let mut program = Program {
-        exprs: Vec::new(),
-        nodes: Statement::Seq(delays(random.between(1, 4))).nodes(),
-        vars: random.below(3) as u16,
-        chans: random.below(3) as u16,
-    };
-    match random.below(6) {
-        0 => program.vars = MOST_VARS + past as u16,
+    let root = Statement::Seq(delays(random.between(1, 4)));
+    let (vars, chans) = (random.below(3) as u16, random.below(3) as u16);
+    let mut program = Program::new(Expressions::new(), root, vars, chans);
+    match random.below(8) {
+        0 => {
+            program.vars = MOST_VARS + past as u16;
+            program.widths = widths(random, program.vars as usize);
+        }
         1 => program.chans = MOST_CHANS + past as u16,
         2 => program.exprs = [0, 7, 0].repeat(MOST_EXPRS + past),
         3 => program.nodes = Statement::Par(delays(MOST_NODES - 1 + past)).nodes(),
         4 => program.nodes = nest(random, 31 + past).nodes(),
+        5 | 6 => program.widths = tight_widths(random, vars as usize, past),
         _ => match random.below(3) {
             // One child too few for a PAR, one too many for an IF or a WHL.
             0 => program.nodes = Statement::Par(delays(2 - past)).nodes(),
@@ -193,6 +212,16 @@ pub fn tight_limits(random: &mut Random) -> Program {
         },
     }
     program
+}
+
+/// Widths at a bound or one past it, or one width more or less than there are variables.
+fn tight_widths(random: &mut Random, vars: usize, past: usize) -> Vec<u16> {
+    match random.below(4) {
+        0 => vec![MOST_WIDTH; vars + past],
+        1 => vec![MOST_WIDTH; vars.saturating_sub(past)],
+        2 => vec![1 - past as u16; vars],
+        _ => vec![MOST_WIDTH + past as u16; vars],
+    }
 }
 
 /// A DLY with so many SEQ above it, some of them with a second child.

@@ -1,8 +1,9 @@
 //! Programs that run for a known number of cycles before one is refused.
 
-use super::values::values;
+use super::values::value;
+use super::widths::width_from;
 use crate::expression::Expressions;
-use crate::program::{Program, State};
+use crate::program::{Program, State, MOST_WIDTH};
 use crate::random::Random;
 use crate::reference;
 use crate::statement::Statement::{self, Asg, Dly, If, In, Out, Par, Seq, Whl};
@@ -32,6 +33,9 @@ struct Maker<'a> {
     exprs: Expressions,
     zero: u16,
     one: u16,
+    /// Whether all variables have the greatest width.
+    wide: bool,
+    widths: Vec<u16>,
     starts: Vec<u16>,
     chans: u16,
 }
@@ -41,31 +45,45 @@ impl Maker<'_> {
         let mut exprs = Expressions::new();
         let zero = exprs.number(0);
         let one = exprs.number(1);
+        let wide = random.percent(30);
         Maker {
             random,
             exprs,
             zero,
             one,
+            wide,
+            widths: Vec::new(),
             starts: Vec::new(),
             chans: 0,
         }
     }
 
     fn begun(self, root: Statement) -> (Program, State) {
-        let program = Program::new(self.exprs, root, self.starts.len() as u16, self.chans);
+        let vars = self.starts.len() as u16;
+        let program = Program::new(self.exprs, root, vars, self.chans).with_widths(&self.widths);
         let state = reference::begun(&program, &self.starts).expect("no loop is met at once");
         (program, state)
     }
 
     /// A variable of its own for whoever asks.
-    fn variable(&mut self, start: u16) -> u16 {
+    fn variable(&mut self, width: u16, start: u16) -> u16 {
+        self.widths.push(width);
         self.starts.push(start);
         self.starts.len() as u16 - 1
     }
 
     fn some_variable(&mut self) -> u16 {
-        let start = values(self.random, 1)[0];
-        self.variable(start)
+        let width = self.width_from(1);
+        let start = value(self.random, width);
+        self.variable(width, start)
+    }
+
+    fn width_from(&mut self, least: u16) -> u16 {
+        if self.wide {
+            MOST_WIDTH
+        } else {
+            width_from(self.random, least)
+        }
     }
 
     fn channel(&mut self) -> u16 {
@@ -95,7 +113,9 @@ impl Maker<'_> {
 
     /// A loop that takes so many cycles, at least one, and when entered again takes none.
     fn once(&mut self, cycles: u16) -> Statement {
-        let variable = self.variable(0);
+        // The count comes to the number of cycles, so that it needs all the bits of that.
+        let width = self.width_from((u16::BITS - cycles.leading_zeros()) as u16);
+        let variable = self.variable(width, 0);
         let old = self.exprs.variable(variable);
         let end = self.exprs.number(cycles);
         let goes_on = self.exprs.below(old, end);

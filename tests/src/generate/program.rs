@@ -3,6 +3,7 @@
 use super::expressions::expressions;
 use super::maker::Maker;
 use super::shape::Shape;
+use super::widths::widths;
 use crate::program::Program;
 use crate::random::Random;
 
@@ -18,6 +19,7 @@ pub fn program(random: &mut Random, shape: &Shape) -> Program {
     Program {
         exprs,
         nodes,
+        widths: widths(random, shape.vars as usize),
         vars: shape.vars,
         chans: shape.chans,
     }

@@ -1,13 +1,13 @@
 //! States: ones that a run reaches, well-formed ones of any origin, and damaged ones.
 
-use super::values::values;
+use super::values::{values, widen};
 use crate::program::{Program, State, PAR};
 use crate::random::Random;
 use crate::reference::{begun, run, Tree};
 
 /// The state some cycles after begin, or nothing if begin is refused.
 pub fn reached_state(random: &mut Random, program: &Program, most: usize) -> Option<State> {
-    let start = values(random, program.vars as usize);
+    let start = values(random, &program.widths);
     let mut state = begun(program, &start).ok()?;
     for _ in 0..random.between(0, most) {
         let entries = state.entries();
@@ -25,7 +25,7 @@ pub fn reached_state(random: &mut Random, program: &Program, most: usize) -> Opt
 pub fn well_formed_state(random: &mut Random, program: &Program) -> State {
     let n = program.node_count();
     let mut state = State {
-        values: values(random, program.vars as usize),
+        values: values(random, &program.widths),
         marks: vec![0; n],
         counts: vec![0; n],
     };
@@ -66,8 +66,8 @@ pub fn counts_for(program: &Program, marks: &[u8]) -> Vec<u16> {
 }
 
 /// One change, which may leave the state well formed.
-pub fn damaged_state(random: &mut Random, state: &mut State) {
-    match random.below(12) {
+pub fn damaged_state(random: &mut Random, program: &Program, state: &mut State) {
+    match random.below(15) {
         0..=3 => change_mark(random, &mut state.marks),
         4..=7 => change_count(random, &mut state.counts),
         8 => {
@@ -76,7 +76,8 @@ pub fn damaged_state(random: &mut Random, state: &mut State) {
         }
         9 => resize(random, &mut state.values),
         10 => resize(random, &mut state.marks),
-        _ => resize(random, &mut state.counts),
+        11 => resize(random, &mut state.counts),
+        _ => widen(random, &program.widths, &mut state.values),
     }
 }
 

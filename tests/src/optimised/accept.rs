@@ -1,12 +1,15 @@
-//! Questions 1 to 4 with yes or no, in one pass over each list.
+//! Questions 1 to 4 and 11 with yes or no, in one pass over each list.
 
 use crate::program::{
     Program, ASG, DLY, IF, IN, MOST_CHANS, MOST_DEPTH, MOST_EXPRS, MOST_NODES, MOST_VARS,
-    NO_PARENT, OUT, PAR, SEQ, WHL,
+    MOST_WIDTH, NO_PARENT, OUT, PAR, SEQ, WHL,
 };
 
 pub fn accepted(program: &Program) -> bool {
-    within_limits(program) && expressions_right(program) && nodes_right(program)
+    within_limits(program)
+        && expressions_right(program)
+        && nodes_right(program)
+        && widths_right(program)
 }
 
 fn within_limits(program: &Program) -> bool {
@@ -27,6 +30,11 @@ fn expressions_right(program: &Program) -> bool {
         2..=7 => words[1].max(words[2]) < e as u16,
         _ => false,
     })
+}
+
+fn widths_right(program: &Program) -> bool {
+    let right = |width: &u16| (1..=MOST_WIDTH).contains(width);
+    program.widths.len() == program.vars as usize && program.widths.iter().all(right)
 }
 
 /// A node whose part of the list goes on.

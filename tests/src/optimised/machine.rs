@@ -36,7 +36,7 @@ impl<'a> Machine<'a> {
         Machine {
             walk,
             channels: Channels::new(program.chans),
-            stores: Stores::new(program.vars),
+            stores: Stores::new(&program.widths),
             inputs: Vec::with_capacity(program.node_count()),
         }
     }

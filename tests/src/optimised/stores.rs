@@ -1,19 +1,32 @@
 //! The stores of a cycle: first what is to be stored, then, to undo it, what stood there.
 
+use crate::program::MOST_WIDTH;
+
+struct Variable {
+    /// When it was last stored to; see the channels.
+    stored_at: u32,
+    /// The bits that a store keeps.
+    mask: u16,
+}
+
 pub struct Stores {
     list: Vec<(u16, u16)>,
-    /// When each variable was last stored to; see the channels.
-    stored_at: Vec<u32>,
+    variables: Vec<Variable>,
     now: u32,
     /// Whether two go to one variable.
     pub clash: bool,
 }
 
 impl Stores {
-    pub fn new(variables: u16) -> Stores {
+    /// The widths are from 1 to 16.
+    pub fn new(widths: &[u16]) -> Stores {
+        let variable = |width: &u16| Variable {
+            stored_at: 0,
+            mask: u16::MAX >> (MOST_WIDTH - width),
+        };
         Stores {
-            list: Vec::with_capacity(variables as usize),
-            stored_at: vec![0; variables as usize],
+            list: Vec::with_capacity(widths.len()),
+            variables: widths.iter().map(variable).collect(),
             now: 0,
             clash: false,
         }
@@ -27,12 +40,12 @@ impl Stores {
     /// A clash is not listed, so that the list has room for all: one entry for each variable.
     #[inline]
     pub fn add(&mut self, variable: u16, value: u16) {
-        let stored_at = &mut self.stored_at[variable as usize];
-        if *stored_at == self.now {
+        let to = &mut self.variables[variable as usize];
+        if to.stored_at == self.now {
             self.clash = true;
         } else {
-            *stored_at = self.now;
-            self.list.push((variable, value));
+            to.stored_at = self.now;
+            self.list.push((variable, value & to.mask));
         }
     }
 

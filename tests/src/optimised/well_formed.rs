@@ -1,4 +1,4 @@
-//! Questions 5 and 6, in one pass from the last node to the first.
+//! Questions 5 and 6, in one pass over the values and one from the last node to the first.
 
 use crate::program::{Program, State, PAR};
 
@@ -8,9 +8,18 @@ pub fn fits(program: &Program, state: &State) -> bool {
         && state.counts.len() == program.node_count()
 }
 
+pub fn holds(program: &Program, state: &State) -> bool {
+    values_hold(program, state) && nodes_hold(program, state)
+}
+
+fn values_hold(program: &Program, state: &State) -> bool {
+    let mut pairs = state.values.iter().zip(&program.widths);
+    pairs.all(|(&value, &width)| (value as u32) >> width == 0)
+}
+
 /// Two marked leaves meet in a node that has two children with a marked leaf; so it is enough
 /// that no node but a PAR has two.
-pub fn holds(program: &Program, state: &State) -> bool {
+fn nodes_hold(program: &Program, state: &State) -> bool {
     let n = program.node_count();
     let mut live_children = vec![0; n];
     for i in (0..n).rev() {

@@ -1,9 +1,10 @@
-//! Questions 1 to 5 and 10, and the entering of node 0.
+//! What check asks, then question 5, question 6 of the values alone, and 10; the entering of node 0.
 
 use super::check::check;
 use super::evaluate::evaluate;
 use super::tree::Tree;
 use super::walk::Walk;
+use super::widths::values_fit;
 use crate::program::{Program, State};
 
 /// The number, then the marks and counts as the call leaves them.
@@ -20,6 +21,9 @@ pub fn begin(
     }
     if !lengths_right(program, values, marks, counts) {
         return refused(5);
+    }
+    if !values_fit(program, values) {
+        return refused(6);
     }
     let n = program.node_count();
     let mut walk = Walk {

@@ -1,6 +1,7 @@
-//! Questions 1 to 4.
+//! Questions 1 to 4 and 11.
 
 use super::tree::Tree;
+use super::widths::widths_right;
 use crate::program::{
     Program, ASG, DLY, IF, IN, MOST_CHANS, MOST_DEPTH, MOST_EXPRS, MOST_NODES, MOST_VARS,
     NO_PARENT, OUT, PAR, SEQ, WHL,
@@ -19,6 +20,9 @@ pub fn check(program: &Program) -> u16 {
     }
     if (0..program.node_count()).any(|i| name_fault(program, i)) {
         return 4;
+    }
+    if !widths_right(program) {
+        return 11;
     }
     0
 }

@@ -1,4 +1,4 @@
-//! All ten questions, and the cycles.
+//! All the questions, and the cycles.
 
 use super::begin::lengths_right;
 use super::check::check;
@@ -6,6 +6,7 @@ use super::evaluate::evaluate;
 use super::tree::Tree;
 use super::walk::Walk;
 use super::well_formed::well_formed;
+use super::widths::kept;
 use crate::program::{Program, State, ASG, DLY, IN, OUT};
 
 /// The number, the cycles worked, and the state as the call leaves it.
@@ -17,7 +18,7 @@ pub fn run(program: &Program, state: &State, schedule: &[u16], cycles: u16) -> (
     if !lengths_right(program, &state.values, &state.marks, &state.counts) {
         return (5, 0, state.clone());
     }
-    if !well_formed(program, &state.marks, &state.counts) {
+    if !well_formed(program, state) {
         return (6, 0, state.clone());
     }
     let tree = Tree::of(program);
@@ -51,7 +52,7 @@ fn cycle(program: &Program, tree: &Tree, state: &State, entries: &[u16]) -> Resu
     }
     let mut values = state.values.clone();
     for (variable, value) in stores {
-        values[variable as usize] = value;
+        values[variable as usize] = kept(program, variable, value);
     }
     let mut walk = Walk {
         program,

@@ -1,16 +1,23 @@
 //! Question 6.
 
 use super::tree::Tree;
-use crate::program::{Program, PAR};
+use super::widths::values_fit;
+use crate::program::{Program, State, PAR};
 
-/// The program is accepted and both lists have a word for each node.
-pub fn well_formed(program: &Program, marks: &[u8], counts: &[u16]) -> bool {
+/// The program is accepted and the lists are as long as they should be.
+pub fn well_formed(program: &Program, state: &State) -> bool {
+    let State {
+        values,
+        marks,
+        counts,
+    } = state;
     let tree = Tree::of(program);
     let n = program.node_count();
     let marked: Vec<usize> = (0..n).filter(|&i| marks[i] != 0).collect();
     // From each marked leaf up to node 0.
     let paths: Vec<Vec<usize>> = marked.iter().map(|&i| tree.upwards(i)).collect();
-    marks.iter().all(|&mark| mark == 0 || mark == 1)
+    values_fit(program, values)
+        && marks.iter().all(|&mark| mark == 0 || mark == 1)
         && marked.iter().all(|&i| program.is_leaf(i))
         && pairs_meet_in_par(program, &paths)
         && (0..n).all(|i| counts[i] as usize == right_count(program, &tree, &paths, i))

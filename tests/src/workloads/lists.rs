@@ -2,18 +2,27 @@
 
 use super::{count_up, endless, workload, Workload};
 use crate::expression::Expressions;
-use crate::program::{Program, MOST_EXPRS};
+use crate::program::{Program, MOST_EXPRS, MOST_WIDTH};
 use crate::statement::Statement;
 
-/// PAR{WHL 1 {v0:=v0+1}; .. WHL 1 {v249:=v249+1}}
-pub fn looping_assignments() -> Workload {
+/// PAR{WHL 1 {v0:=v0+1}; .. WHL 1 {v249:=v249+1}}, with variables of this width.
+fn looping_assignments_of(name: &'static str, width: u16) -> Workload {
     let mut exprs = Expressions::new();
     let one = exprs.number(1);
     let threads = (0..250)
         .map(|variable| endless(one, count_up(&mut exprs, one, variable)))
         .collect();
-    let program = Program::new(exprs, Statement::Par(threads), 250, 0);
-    workload("250 looping assignments", 1_000, program)
+    let program = Program::new(exprs, Statement::Par(threads), 250, 0).with_widths(&[width; 250]);
+    workload(name, 1_000, program)
+}
+
+pub fn looping_assignments() -> Workload {
+    looping_assignments_of("250 looping assignments", MOST_WIDTH)
+}
+
+/// The same, where a store keeps 12 bits.
+pub fn looping_assignments_of_12_bits() -> Workload {
+    looping_assignments_of("250 looping assignments, 12 bits", 12)
 }
 
 /// PAR{WHL 1 {SEQ{v0:=v0+1; ..}}; WHL 1 {SEQ{v1:=v1+1; ..}}}, with so many statements in all.
