@@ -2,7 +2,7 @@
 
 use pahmozil_tests::optimised;
 use pahmozil_tests::program::{
-    Program, State, ASG, DLY, IF, IN, MOST_DEPTH, MOST_EXPRS, OUT, PAR, SEQ, WHL,
+    Program, State, ASG, DLY, IF, IN, MOST_DEPTH, MOST_EXPRS, MOST_WIDTH, OUT, PAR, SEQ, WHL,
 };
 use pahmozil_tests::reference::{self, Tree};
 use pahmozil_tests::workloads::{self, Workload};
@@ -46,6 +46,7 @@ fn sizes() {
     let expected = [
         (4, 3, 2),
         (501, 501, 250),
+        (501, 501, 250),
         (10, 5, 2),
         (100, 5, 2),
         (1_000, 5, 2),
@@ -86,6 +87,35 @@ fn looping_assignments() {
     always_active(&workload, 250);
     let after = &states(&workload, 3)[3];
     assert_eq!(after.values, (3..253).collect::<Vec<u16>>());
+}
+
+#[test]
+fn looping_assignments_of_12_bits() {
+    let wide = workloads::looping_assignments();
+    let workload = workloads::looping_assignments_of_12_bits();
+    let Workload { program, start, .. } = &workload;
+    assert_eq!(program.widths, [12; 250]);
+    assert_eq!(*program, wide.program.with_widths(&program.widths));
+    assert_eq!((start, workload.cycles), (&wide.start, wide.cycles));
+    always_active(&workload, 250);
+    // After so many cycles, those that started at 96 or more have come past 4,095.
+    let schedule = optimised::ascending_schedule(program, start, 4_000);
+    let (number, worked, after) = reference::run(program, start, &schedule, 4_000);
+    assert_eq!((number, worked), (0, 4_000));
+    let expected = (4_000..4_096).chain(0..154);
+    assert_eq!(after.values, expected.collect::<Vec<u16>>());
+}
+
+/// What was timed before variables had widths is still the same.
+#[test]
+fn all_others_have_the_greatest_width() {
+    let narrow = |workload: &Workload| workload.program.widths.iter().any(|&w| w != MOST_WIDTH);
+    let names: Vec<&str> = workloads::all()
+        .iter()
+        .filter(|workload| narrow(workload))
+        .map(|workload| workload.name)
+        .collect();
+    assert_eq!(names, ["250 looping assignments, 12 bits"]);
 }
 
 #[test]
