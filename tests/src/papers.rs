@@ -1,10 +1,12 @@
-//! The sample papers of the rules document, with all that it says comes out of them, and two papers of
-//! our own, `stored_condition` and `uneven_threads`, worked by hand.
+//! The sample papers of the rules document, with all that it says comes out of them, and papers of our
+//! own, worked by hand: `stored_condition`, `uneven_threads` and all in `widths` and `refusals`.
 
 mod channels;
 mod limits;
 mod loops;
 mod plain;
+mod refusals;
+mod widths;
 
 pub use channels::{delayed_out, two_in_on_one_channel, waiting_in_is_no_store};
 pub use limits::{depth_32, depth_33, n_1024, n_1025};
@@ -15,6 +17,14 @@ pub use loops::{
 pub use plain::{
     equal_values_conflict, one_dly, swap, swap_wrong_book, unequal_values_conflict, uneven_threads,
     wrapping, zero_cycles,
+};
+pub use refusals::{
+    eleven_comes_after_4, eleven_comes_before_5, five_comes_before_6, six_comes_before_10,
+    values_too_wide, wrong_widths,
+};
+pub use widths::{
+    begin_over_rubbish, begin_too_wide, condition_beyond_the_width, seven_into_one_bit,
+    six_into_one_bit, twelve_bit_counter, two_stores_to_one_bit, wide_formula_of_narrow_variable,
 };
 
 use crate::program::{Program, State};
@@ -37,6 +47,15 @@ pub struct Run {
     pub number: u16,
     pub worked: u16,
     pub after: State,
+}
+
+/// A program and a state that are refused, each time with item 0 and with nothing written.
+pub struct Refusal {
+    pub name: &'static str,
+    pub program: Program,
+    pub state: State,
+    /// What check, begin and run give.
+    pub numbers: [u16; 3],
 }
 
 /// A program for check alone.
@@ -65,7 +84,28 @@ pub fn all() -> Vec<Paper> {
         unequal_values_conflict(),
         stored_condition(),
         uneven_threads(),
+        twelve_bit_counter(),
+        seven_into_one_bit(),
+        six_into_one_bit(),
+        begin_too_wide(),
+        begin_over_rubbish(),
+        wide_formula_of_narrow_variable(),
+        condition_beyond_the_width(),
+        two_stores_to_one_bit(),
     ]
+}
+
+pub fn refusals() -> Vec<Refusal> {
+    let order = vec![
+        eleven_comes_after_4(),
+        eleven_comes_before_5(),
+        five_comes_before_6(),
+        six_comes_before_10(),
+    ];
+    [wrong_widths(), values_too_wide(), order]
+        .into_iter()
+        .flatten()
+        .collect()
 }
 
 pub fn limits() -> Vec<Limit> {

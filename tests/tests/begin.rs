@@ -2,7 +2,7 @@
 
 use pahmozil_tests::compare;
 use pahmozil_tests::generate;
-use pahmozil_tests::papers;
+use pahmozil_tests::papers::{self, Paper};
 use pahmozil_tests::player;
 use pahmozil_tests::program::{Program, MOST_WIDTH};
 use pahmozil_tests::random::Random;
@@ -74,23 +74,26 @@ fn random_programs() {
     assert!(tally.total() >= 200_000);
 }
 
+/// On lists that hold what no state has.
 #[test]
 fn sample_papers() {
     for paper in papers::all() {
-        let n = paper.program.node_count();
-        let (mut marks, mut counts) = (vec![1; n], vec![9; n]);
-        let answer = player::begin(&paper.program, &paper.values, &mut marks, &mut counts);
-        assert_eq!(
-            (answer.number, answer.item),
-            (paper.begin, 0),
-            "{}",
-            paper.name
-        );
-        if paper.begin == 0 {
-            assert_eq!(marks, paper.start.marks, "{}", paper.name);
-            assert_eq!(counts, paper.start.counts, "{}", paper.name);
-        } else {
-            assert_eq!((marks, counts), (vec![1; n], vec![9; n]), "{}", paper.name);
-        }
+        hold(&paper, 1, 9);
+        hold(&paper, 255, 65535);
+    }
+}
+
+fn hold(paper: &Paper, old_mark: u8, old_count: u16) {
+    let n = paper.program.node_count();
+    let old = (vec![old_mark; n], vec![old_count; n]);
+    let (mut marks, mut counts) = old.clone();
+    let answer = player::begin(&paper.program, &paper.values, &mut marks, &mut counts);
+    let expected = (paper.begin, 0);
+    assert_eq!((answer.number, answer.item), expected, "{}", paper.name);
+    if paper.begin == 0 {
+        assert_eq!(marks, paper.start.marks, "{}", paper.name);
+        assert_eq!(counts, paper.start.counts, "{}", paper.name);
+    } else {
+        assert_eq!((marks, counts), old, "{}", paper.name);
     }
 }

@@ -1,6 +1,6 @@
 //! The reference against the sample papers.
 
-use pahmozil_tests::papers::{self, Limit, Paper};
+use pahmozil_tests::papers::{self, Limit, Paper, Refusal};
 use pahmozil_tests::reference;
 
 fn hold(paper: Paper) {
@@ -36,6 +36,28 @@ fn hold(paper: Paper) {
         assert_eq!(worked, run.worked, "{}: worked", paper.name);
         assert_eq!(after, run.after, "{}: state", paper.name);
     }
+}
+
+fn hold_refusal(refusal: Refusal) {
+    let Refusal {
+        name,
+        program,
+        state,
+        numbers,
+    } = &refusal;
+    let begun = reference::begin(program, &state.values, &state.marks, &state.counts);
+    let (number, worked, after) = reference::run(program, state, &[], 5);
+    assert_eq!(
+        [reference::check(program), begun.0, number],
+        *numbers,
+        "{name}"
+    );
+    assert_eq!(
+        (&begun.1, &begun.2),
+        (&state.marks, &state.counts),
+        "{name}"
+    );
+    assert_eq!((worked, &after), (0, state), "{name}");
 }
 
 fn hold_limit(limit: Limit) {
@@ -130,6 +152,76 @@ fn stored_condition() {
 #[test]
 fn uneven_threads() {
     hold(papers::uneven_threads());
+}
+
+#[test]
+fn twelve_bit_counter() {
+    hold(papers::twelve_bit_counter());
+}
+
+#[test]
+fn seven_into_one_bit() {
+    hold(papers::seven_into_one_bit());
+}
+
+#[test]
+fn six_into_one_bit() {
+    hold(papers::six_into_one_bit());
+}
+
+#[test]
+fn begin_too_wide() {
+    hold(papers::begin_too_wide());
+}
+
+#[test]
+fn begin_over_rubbish() {
+    hold(papers::begin_over_rubbish());
+}
+
+#[test]
+fn wide_formula_of_narrow_variable() {
+    hold(papers::wide_formula_of_narrow_variable());
+}
+
+#[test]
+fn condition_beyond_the_width() {
+    hold(papers::condition_beyond_the_width());
+}
+
+#[test]
+fn two_stores_to_one_bit() {
+    hold(papers::two_stores_to_one_bit());
+}
+
+#[test]
+fn wrong_widths() {
+    papers::wrong_widths().into_iter().for_each(hold_refusal);
+}
+
+#[test]
+fn values_too_wide() {
+    papers::values_too_wide().into_iter().for_each(hold_refusal);
+}
+
+#[test]
+fn eleven_comes_after_4() {
+    hold_refusal(papers::eleven_comes_after_4());
+}
+
+#[test]
+fn eleven_comes_before_5() {
+    hold_refusal(papers::eleven_comes_before_5());
+}
+
+#[test]
+fn five_comes_before_6() {
+    hold_refusal(papers::five_comes_before_6());
+}
+
+#[test]
+fn six_comes_before_10() {
+    hold_refusal(papers::six_comes_before_10());
 }
 
 #[test]
