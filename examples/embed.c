@@ -22,6 +22,9 @@ static const uint16_t nodes[5 * NODES] = {
     PLAYER_KIND_ASG, 0, 3, 1, 0                 /* node 2: v1 gets expression 0 */
 };
 
+/* bits of v0, bits of v1 */
+static const uint16_t widths[VARS] = {12, 12};
+
 static void play(const uint16_t book[ENTRIES])
 {
     uint16_t values[VARS] = {3, 7};
@@ -30,13 +33,14 @@ static void play(const uint16_t book[ENTRIES])
     uint32_t begun;
     uint64_t ran;
 
-    begun = player_begin(exprs, 3 * EXPRS, nodes, 5 * NODES, VARS, CHANS, values, VARS, marks, NODES, counts, NODES);
+    begun = player_begin(exprs, 3 * EXPRS, nodes, 5 * NODES, widths, VARS, VARS, CHANS, values, VARS, marks, NODES,
+                         counts, NODES);
     if (PLAYER_NUMBER(begun) != PLAYER_OK) {
         printf("begin: number %d\n", PLAYER_NUMBER(begun));
         return;
     }
-    ran = player_run(exprs, 3 * EXPRS, nodes, 5 * NODES, VARS, CHANS, values, VARS, marks, NODES, counts, NODES, book,
-                     ENTRIES, CYCLES);
+    ran = player_run(exprs, 3 * EXPRS, nodes, 5 * NODES, widths, VARS, VARS, CHANS, values, VARS, marks, NODES, counts,
+                     NODES, book, ENTRIES, CYCLES);
     printf("book %d,%d: number %d, worked %d, values %d %d\n", book[0], book[1], PLAYER_NUMBER(ran), PLAYER_WORKED(ran),
            values[0], values[1]);
 }

@@ -8,11 +8,19 @@
  * through it. A list that a call writes must not overlap any other list of the call. Lists of any length and content
  * may be lent otherwise: the answer's number tells what is wrong with them.
  *
- * A program is a list of expressions, three words each (op, p, q), a list of nodes, five words each (kind, parent, end,
- * a, b), and the numbers of variables and of channels. So exprs_len is three times the number of expressions, and
- * nodes_len five times the number of nodes.
+ * A program is three lists and two numbers: a list of expressions, three words each (op, p, q); a list of nodes, five
+ * words each (kind, parent, end, a, b); a list of widths, one word for each variable; the number of variables, and the
+ * number of channels. So exprs_len is three times the number of expressions, nodes_len five times the number of nodes,
+ * and widths_len the number of variables.
  *
- * A state is three lists: a value for each variable, a mark (1 or 0) for each node, a thread count for each node.
+ * The width of a variable is the number of its bits, 1 to 16. Whatever is stored to the variable, by an assignment or
+ * from a channel, is kept modulo two to the power of the width: with width 12, 4,096 is stored as 0. Nothing else has a
+ * width. Expressions are worked modulo 65,536, whatever the widths of the variables in them, and what is sent on a
+ * channel is sent whole. With width 16 for every variable a store never loses anything.
+ *
+ * A state is three lists: a value for each variable, a mark (1 or 0) for each node, a thread count for each node. Each
+ * value is below two to the power of its variable's width. A run sees to that in what it stores; starting values are not
+ * cut, and where one is too large the program does not begin.
  *
  *   uint16_t values[VARS];                      the starting values
  *   uint8_t marks[NODES];                       written by player_begin
@@ -51,7 +59,8 @@ enum player_limit {
     PLAYER_EXPRS_MAX = 1024,
     PLAYER_VARS_MAX = 256,
     PLAYER_CHANS_MAX = 256,
-    PLAYER_DEPTH_MAX = 32 /* a node and all above it */
+    PLAYER_DEPTH_MAX = 32, /* a node and all above it */
+    PLAYER_WIDTH_MAX = 16  /* the bits of a variable; at least 1 */
 };
 
 /* The parent word of node 0. */
@@ -74,18 +83,20 @@ enum player_op {
 enum player_kind {
     PLAYER_KIND_SEQ = 1, /* its children one after the other: 1 child or more */
     PLAYER_KIND_PAR = 2, /* its children side by side: 2 children or more */
-    PLAYER_KIND_ASG = 3, /* stores expression b to variable a: a leaf */
-    PLAYER_KIND_IN = 4,  /* receives from channel a into variable b: a leaf */
+    PLAYER_KIND_ASG = 3, /* stores expression b to variable a, as much as its width keeps: a leaf */
+    PLAYER_KIND_IN = 4,  /* receives from channel a and stores to variable b in the same way: a leaf */
     PLAYER_KIND_OUT = 5, /* sends expression b on channel a: a leaf */
     PLAYER_KIND_IF = 6,  /* the first child where expression a is not 0, else the second: 1 or 2 children */
     PLAYER_KIND_WHL = 7, /* its child again and again while expression a is not 0: 1 child */
     PLAYER_KIND_DLY = 8  /* nothing, for one cycle: a leaf */
 };
 
-/* What went wrong. The questions are asked in this order, and the answer's number is that of the first that fails. */
+/* What went wrong. The questions are asked in this order, which is not that of the numbers: 11 is asked after 4 and
+ * before 5. The answer's number is that of the first that fails. */
 enum player_number {
     PLAYER_OK = 0, /* nothing */
-    /* A list is no whole number of records, or the program is outside the limits above. */
+    /* The list of expressions or of nodes is no whole number of records, or there are too many expressions, nodes,
+     * variables or channels, or no node. */
     PLAYER_SIZES = 1,
     /* An expression has an unknown op, an operand that is no earlier expression (for op 1: no variable), or an unused
      * word that is not 0. The item is its index. */
@@ -95,10 +106,13 @@ enum player_number {
     PLAYER_NODE = 3,
     /* A node refers to a variable, channel or expression that the program does not have. The item is its index. */
     PLAYER_RANGE = 4,
+    /* There are more or fewer widths than variables, or a width is 0 or above PLAYER_WIDTH_MAX. The item is 0. */
+    PLAYER_WIDTHS = 11,
     /* A list of the state has a wrong length. */
     PLAYER_STATE_LENGTHS = 5,
-    /* The state is not well formed: a mark is neither 0 nor 1, or not at a leaf; or two marked leaves are not in
-     * different children of a PAR; or a thread count is wrong. */
+    /* The state is not well formed: a value is too large for its variable's width; or a mark is neither 0 nor 1, or not
+     * at a leaf; or two marked leaves are not in different children of a PAR; or a thread count is wrong. player_begin
+     * asks this of the values alone. */
     PLAYER_STATE = 6,
     /* The book has too few entries left for the cycle, or they are not the marked nodes, each once. */
     PLAYER_BOOK = 7,
@@ -116,28 +130,28 @@ enum player_number {
 /* of player_run's answer alone */
 #define PLAYER_WORKED(answer) ((uint16_t)((answer) >> 32 & 0xffffu))
 
-/* Checks a program: numbers 1 to 4. Nothing is written.
+/* Checks a program: numbers 1 to 4, then 11. Nothing is written.
  *
  * The answer has the number in its low 16 bits and the item in its high 16 bits. With 2 the item is the index of an
  * expression that has the fault, with 3 and 4 that of a node; with any other number it is 0.
  */
-uint32_t player_check(const uint16_t *exprs, size_t exprs_len, const uint16_t *nodes, size_t nodes_len, uint16_t vars,
-                      uint16_t chans);
+uint32_t player_check(const uint16_t *exprs, size_t exprs_len, const uint16_t *nodes, size_t nodes_len,
+                      const uint16_t *widths, size_t widths_len, uint16_t vars, uint16_t chans);
 
-/* Begins a program with the values as they are: numbers 1 to 5, and 10.
+/* Begins a program with the values as they are: numbers 1 to 4, then 11, 5, 6 for the values alone, and 10.
  *
  * values has an element for each variable, marks and counts have one for each node. What stands in marks and counts
- * before the call is not read. Where the answer's number is 0, both are written whole: marks has a 1 for each statement
- * that the first cycle works. Where it is not 0, nothing is written.
+ * before the call is not read, so that none of it is refused. Where the answer's number is 0, both are written whole:
+ * marks has a 1 for each statement that the first cycle works. Where it is not 0, nothing is written.
  *
  * The answer is laid out as player_check's.
  */
-uint32_t player_begin(const uint16_t *exprs, size_t exprs_len, const uint16_t *nodes, size_t nodes_len, uint16_t vars,
-                      uint16_t chans, const uint16_t *values, size_t values_len, uint8_t *marks, size_t marks_len,
-                      uint16_t *counts, size_t counts_len);
+uint32_t player_begin(const uint16_t *exprs, size_t exprs_len, const uint16_t *nodes, size_t nodes_len,
+                      const uint16_t *widths, size_t widths_len, uint16_t vars, uint16_t chans, const uint16_t *values,
+                      size_t values_len, uint8_t *marks, size_t marks_len, uint16_t *counts, size_t counts_len);
 
 /* Runs a program from a state, one that player_begin or player_run left or any other that is well formed: numbers 1 to
- * 10, of which 7 to 10 are asked anew in each cycle.
+ * 4, then 11, 5 and 6, and then 7 to 10, which are asked anew in each cycle.
  *
  * It works cycles until as many as asked for are worked, no mark stands, or a cycle is refused. The three lists are
  * then as the last worked cycle left them; where none was worked, they are as they were. It works in the lists
@@ -146,9 +160,10 @@ uint32_t player_begin(const uint16_t *exprs, size_t exprs_len, const uint16_t *n
  * The answer has the number in its lowest 16 bits, the item, as player_check gives it, in the next 16 bits, and the
  * cycles worked in the 16 bits above. Its highest 16 bits are 0.
  */
-uint64_t player_run(const uint16_t *exprs, size_t exprs_len, const uint16_t *nodes, size_t nodes_len, uint16_t vars,
-                    uint16_t chans, uint16_t *values, size_t values_len, uint8_t *marks, size_t marks_len,
-                    uint16_t *counts, size_t counts_len, const uint16_t *book, size_t book_len, uint16_t cycles);
+uint64_t player_run(const uint16_t *exprs, size_t exprs_len, const uint16_t *nodes, size_t nodes_len,
+                    const uint16_t *widths, size_t widths_len, uint16_t vars, uint16_t chans, uint16_t *values,
+                    size_t values_len, uint8_t *marks, size_t marks_len, uint16_t *counts, size_t counts_len,
+                    const uint16_t *book, size_t book_len, uint16_t cycles);
 
 #ifdef __cplusplus
 }

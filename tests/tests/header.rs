@@ -18,13 +18,13 @@ uint64_t use_player(const uint16_t *words, uint16_t *values, uint8_t *marks, uin
 
 uint64_t use_player(const uint16_t *words, uint16_t *values, uint8_t *marks, uint16_t *counts)
 {
-    if ((player_check(words, 3, words, 5, 1, 0) & 65535u) != PLAYER_OK) {
-        return PLAYER_SIZES + PLAYER_EXPRESSION + PLAYER_NODE + PLAYER_RANGE + PLAYER_STATE_LENGTHS;
+    if ((player_check(words, 3, words, 5, words, 1, 1, 0) & 65535u) != PLAYER_OK) {
+        return PLAYER_SIZES + PLAYER_EXPRESSION + PLAYER_NODE + PLAYER_RANGE + PLAYER_WIDTHS;
     }
-    if (player_begin(words, 3, words, 5, 1, 0, values, 1, marks, 1, counts, 1) != PLAYER_OK) {
-        return PLAYER_STATE + PLAYER_BOOK + PLAYER_CHANNEL + PLAYER_STORE + PLAYER_ZERO_TIME;
+    if (player_begin(words, 3, words, 5, words, 1, 1, 0, values, 1, marks, 1, counts, 1) != PLAYER_OK) {
+        return PLAYER_STATE_LENGTHS + PLAYER_STATE + PLAYER_BOOK + PLAYER_CHANNEL + PLAYER_STORE + PLAYER_ZERO_TIME;
     }
-    return player_run(words, 3, words, 5, 1, 0, values, 1, marks, 1, counts, 1, words, 1, 5);
+    return player_run(words, 3, words, 5, words, 1, 1, 0, values, 1, marks, 1, counts, 1, words, 1, 5);
 }
 "#;
 
