@@ -19,8 +19,8 @@
  * channel is sent whole. With width 16 for every variable a store never loses anything.
  *
  * A state is three lists: a value for each variable, a mark (1 or 0) for each node, a thread count for each node. Each
- * value is below two to the power of its variable's width. A run sees to that in what it stores; starting values are not
- * cut, and where one is too large the program does not begin.
+ * value is below two to the power of its variable's width. A run sees to that in what it stores; starting values are
+ * not cut, and where one is too large the program does not begin.
  *
  *   uint16_t values[VARS];                      the starting values
  *   uint8_t marks[NODES];                       written by player_begin
@@ -141,8 +141,8 @@ uint32_t player_check(const uint16_t *exprs, size_t exprs_len, const uint16_t *n
 /* Begins a program with the values as they are: numbers 1 to 4, then 11, 5, 6 for the values alone, and 10.
  *
  * values has an element for each variable, marks and counts have one for each node. What stands in marks and counts
- * before the call is not read, so that none of it is refused. Where the answer's number is 0, both are written whole:
- * marks has a 1 for each statement that the first cycle works. Where it is not 0, nothing is written.
+ * before the call is not read, and may be anything. Where the answer's number is 0, both are written whole: marks has a
+ * 1 for each statement that the first cycle works. Where it is not 0, nothing is written.
  *
  * The answer is laid out as player_check's.
  */

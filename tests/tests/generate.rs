@@ -1,7 +1,7 @@
 //! What the random programs cover. A comparison over programs that all look alike shows little.
 
 use pahmozil_tests::generate;
-use pahmozil_tests::program::{Program, IF, IN, MOST_DEPTH, OUT};
+use pahmozil_tests::program::{Program, State, ASG, IF, IN, MOST_DEPTH, MOST_WIDTH, OUT};
 use pahmozil_tests::random::Random;
 use pahmozil_tests::reference::{self, Tree};
 use std::collections::BTreeMap;
@@ -53,34 +53,78 @@ fn shapes() {
     assert!(met["16 children or more"] >= 100);
 }
 
+#[test]
+fn widths() {
+    let mut programs = programs(505, 20_000);
+    programs.retain(|program| program.vars > 0);
+    let wide = |program: &&Program| program.widths.iter().all(|&width| width == MOST_WIDTH);
+    let all_wide = programs.iter().filter(wide).count();
+    let mut met = [0; MOST_WIDTH as usize + 1];
+    for program in &programs {
+        for &width in &program.widths {
+            met[width as usize] += 1;
+        }
+    }
+    println!("programs with the greatest width throughout: {all_wide}; by width: {met:?}");
+    assert!(all_wide >= 4_000);
+    assert!(all_wide <= programs.len() / 2);
+    assert!(met[1..].iter().all(|&times| times >= 500));
+}
+
+/// The states before and after each of the first five cycles, as far as they are worked.
+fn first_cycles(random: &mut Random, program: &Program) -> Vec<(State, State)> {
+    let mut list = Vec::new();
+    let Some(mut before) = generate::reached_state(random, program, 0) else {
+        return list;
+    };
+    for _ in 0..5 {
+        let (number, _, after) = reference::run(program, &before, &before.entries(), 1);
+        if number != 0 {
+            break;
+        }
+        list.push((before, after.clone()));
+        before = after;
+    }
+    list
+}
+
+/// The marked statements of this kind.
+fn marked(program: &Program, state: &State, kind: u16) -> Vec<usize> {
+    let mut list = state.marked();
+    list.retain(|&i| program.kind(i) == kind);
+    list
+}
+
+/// Variable and expression of each store that an ASG makes.
+fn assigned(program: &Program, state: &State) -> Vec<(u16, u16)> {
+    let list = marked(program, state, ASG);
+    let store = |i: usize| (program.a(i), program.b(i));
+    list.into_iter().map(store).collect()
+}
+
+/// Variable and expression of each store that an IN makes.
+fn received(program: &Program, state: &State) -> Vec<(u16, u16)> {
+    let outs = marked(program, state, OUT);
+    let store = |i: usize| {
+        let out = outs.iter().find(|&&out| program.a(out) == program.a(i))?;
+        Some((program.b(i), program.b(*out)))
+    };
+    let ins = marked(program, state, IN);
+    ins.into_iter().filter_map(store).collect()
+}
+
 /// Programs of which a run comes to a waiting IN or OUT, and to a completing pair.
 #[test]
 fn communications() {
     let random = &mut Random::new(503);
     let (mut waits, mut completes) = (0, 0);
     for program in programs(504, 20_000) {
-        let Some(mut state) = generate::reached_state(random, &program, 0) else {
-            continue;
-        };
         let (mut waited, mut completed) = (false, false);
-        for _ in 0..5 {
-            let entries = state.entries();
-            let (number, _, after) = reference::run(&program, &state, &entries, 1);
-            if number != 0 {
-                break;
-            }
-            let channels = |kind: u16| -> Vec<u16> {
-                let marked = state.marked().into_iter();
-                marked
-                    .filter(|&i| program.kind(i) == kind)
-                    .map(|i| program.a(i))
-                    .collect()
-            };
-            let (ins, outs) = (channels(IN), channels(OUT));
-            completed |= ins.iter().any(|channel| outs.contains(channel));
-            waited |= ins.iter().any(|channel| !outs.contains(channel));
-            waited |= outs.iter().any(|channel| !ins.contains(channel));
-            state = after;
+        for (before, _) in first_cycles(random, &program) {
+            let ends = [IN, OUT].map(|kind| marked(&program, &before, kind).len());
+            let pairs = received(&program, &before).len();
+            completed |= pairs > 0;
+            waited |= ends != [pairs; 2];
         }
         waits += waited as usize;
         completes += completed as usize;
@@ -88,4 +132,27 @@ fn communications() {
     println!("programs in which a communication waits: {waits}, completes: {completes}");
     assert!(waits >= 3_000);
     assert!(completes >= 2_000);
+}
+
+/// Programs of which a run comes to a store that loses bits.
+#[test]
+fn stores_that_lose_bits() {
+    let random = &mut Random::new(506);
+    let (mut by_asg, mut by_in) = (0, 0);
+    for program in programs(507, 20_000) {
+        let (mut asg, mut input) = (false, false);
+        for (before, after) in first_cycles(random, &program) {
+            let results = reference::evaluate(&program, &before.values);
+            let lossy = |(variable, e): &(u16, u16)| {
+                after.values[*variable as usize] != results[*e as usize]
+            };
+            asg |= assigned(&program, &before).iter().any(lossy);
+            input |= received(&program, &before).iter().any(lossy);
+        }
+        by_asg += asg as usize;
+        by_in += input as usize;
+    }
+    println!("programs in which a store loses bits, by an ASG: {by_asg}, by an IN: {by_in}");
+    assert!(by_asg >= 1_000);
+    assert!(by_in >= 250);
 }

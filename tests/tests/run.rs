@@ -55,7 +55,7 @@ fn states_that_runs_reach() {
             }
         }
     }
-    tally.demand(&[0, 7, 8, 9, 10], 1_000);
+    tally.demand(&[0, 7, 8, 9, 10], 2_000);
     late.demand(&[0, 7, 8, 9, 10], 300);
 }
 
@@ -75,7 +75,7 @@ fn well_formed_states_that_no_run_need_reach() {
 fn damaged_states_and_programs() {
     let random = &mut Random::new(305);
     let tally = &mut Tally::new("run, damaged");
-    while tally.total() < 60_000 {
+    while tally.total() < 80_000 {
         let program = some_program(random);
         let state = generate::well_formed_state(random, &program);
         let schedule = generate::schedule(random, &program, &state, 4);
@@ -93,7 +93,26 @@ fn damaged_states_and_programs() {
         let cycles = cycles_asked(random);
         tally.meet(compare::run(&other, &lists, &schedule, cycles).0);
     }
-    tally.demand(&[0, 1, 2, 3, 4, 5, 6, 7], 1_000);
+    tally.demand(&[0, 1, 2, 3, 4, 5, 6, 7, 11], 2_000);
+}
+
+/// States of which nothing but a value is wrong.
+#[test]
+fn values_too_wide() {
+    let random = &mut Random::new(308);
+    let tally = &mut Tally::new("run, values too wide");
+    while tally.total() < 10_000 {
+        let program = some_program(random);
+        let mut state = generate::well_formed_state(random, &program);
+        let schedule = generate::schedule(random, &program, &state, 4);
+        let before = state.values.clone();
+        generate::widen(random, &program.widths, &mut state.values);
+        if state.values != before {
+            let cycles = cycles_asked(random);
+            tally.meet(compare::run(&program, &state, &schedule, cycles).0);
+        }
+    }
+    tally.demand(&[6], 10_000);
 }
 
 /// All marks in 0 and 1, mostly with the thread counts that go with them.

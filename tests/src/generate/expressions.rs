@@ -27,7 +27,9 @@ pub fn expressions(random: &mut Random, shape: &Shape) -> Expressions {
         } else if variable {
             exprs.variable(random.below(shape.vars as usize) as u16);
         } else {
-            let p = random.pick(&[0, 1, 1, 2, 65535, 300]);
+            // The larger ones lose bits in most of the variables that they are stored to.
+            let any = random.word();
+            let p = random.pick(&[0, 0, 1, 1, 1, 2, 300, 65535, any, any]);
             exprs.number(p);
         }
     }

@@ -14,7 +14,7 @@ pub fn widths(random: &mut Random, count: usize) -> Vec<u16> {
 /// At least so many bits. Narrow variables lose bits at almost every store, so that they are drawn
 /// more often.
 pub fn width_from(random: &mut Random, least: u16) -> u16 {
-    let most = match random.below(4) {
+    let most = match random.below(3) {
         0 => least,
         1 => MOST_WIDTH.min(least + 4),
         _ => MOST_WIDTH,
