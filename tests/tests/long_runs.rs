@@ -141,8 +141,8 @@ fn hold_longest(name: &str, program: &Program, start: &State) {
     assert_eq!(answer, (0, 65_535), "{name}");
 }
 
-fn begun(exprs: Expressions, threads: Vec<Statement>) -> (Program, State) {
-    let program = Program::new(exprs, Par(threads), 4, 1);
+fn begun(exprs: Expressions, threads: Vec<Statement>, widths: [u16; 4]) -> (Program, State) {
+    let program = Program::new(exprs, Par(threads), 4, 1).with_widths(&widths);
     let start = reference::begun(&program, &[0; 4]).expect("no loop is met at once");
     (program, start)
 }
@@ -164,7 +164,7 @@ fn seldom_read(late: u16) -> (Program, State) {
     let reads = If(early, vec![Asg(1, formula), reads]);
     let endless = |body| Whl(one, Box::new(body));
     let threads = vec![endless(Asg(0, more)), endless(reads)];
-    begun(exprs, threads)
+    begun(exprs, threads, [16; 4])
 }
 
 /// A counter, and a test of it that is worked as a right side in one of the first cycles, and then as
@@ -183,11 +183,11 @@ fn read_at_both_ends(before: u16, end: u16) -> (Program, State) {
     steps.push(Whl(goes_on, Box::new(Dly)));
     steps.push(If(first, vec![Asg(2, one), Asg(3, one)]));
     let counter = Whl(one, Box::new(Asg(0, more)));
-    begun(exprs, vec![counter, Seq(steps)])
+    begun(exprs, vec![counter, Seq(steps)], [16; 4])
 }
 
 /// A communication in every cycle that changes what is sent, beside a formula and a choice over it.
-fn sent_on() -> (Program, State) {
+fn sent_on(widths: [u16; 4]) -> (Program, State) {
     let mut exprs = Expressions::new();
     let one = exprs.number(1);
     let v0 = exprs.variable(0);
@@ -201,7 +201,7 @@ fn sent_on() -> (Program, State) {
         endless(Asg(1, product)),
         endless(If(odd, vec![Asg(2, v0), Asg(3, product)])),
     ];
-    begun(exprs, threads)
+    begun(exprs, threads, widths)
 }
 
 #[test]
@@ -216,8 +216,10 @@ fn longest_runs_with_a_change_in_each_cycle() {
             hold_longest("read at both ends", &program, &start);
         }
     }
-    let (program, start) = sent_on();
-    hold_longest("sent on", &program, &start);
+    for widths in [[16; 4], [12; 4], [1, 15, 2, 8]] {
+        let (program, start) = sent_on(widths);
+        hold_longest("sent on", &program, &start);
+    }
     let shapes = [
         workloads::sequences("sequences", 100),
         workloads::nesting(),

@@ -237,4 +237,8 @@ fn sample_papers() {
             }
         }
     }
+    for refusal in papers::refusals() {
+        let answer = hold(&refusal.program, &refusal.state, &[], 5);
+        assert_eq!(answer, (refusal.numbers[2], 0), "{}", refusal.name);
+    }
 }
