@@ -3,7 +3,7 @@
 use super::{state, Paper, Run};
 use crate::expression::Expressions;
 use crate::program::Program;
-use crate::statement::Statement::{Asg, Dly, If, In, Out, Par, Whl};
+use crate::statement::Statement::{Asg, Dly, In, Out, Par, Whl};
 
 /// WHL 1 {v0:=v0+1}, where v0 has 12 bits: after 4,095 comes 0.
 pub fn twelve_bit_counter() -> Paper {
@@ -145,30 +145,29 @@ pub fn wide_formula_of_narrow_variable() -> Paper {
     }
 }
 
-/// IF v0+1 {v1:=1; v1:=2}, where v0 has 4 bits and is 15. The condition is 16, which is true: a
-/// condition has no width.
+/// WHL v0+1 {v0:=v0+1}, where v0 has one bit. The condition is 2 and 1 in turn, and so never false: it
+/// is not cut to one bit.
 pub fn condition_beyond_the_width() -> Paper {
     let mut exprs = Expressions::new();
     let one = exprs.number(1);
-    let two = exprs.number(2);
     let v0 = exprs.variable(0);
     let more = exprs.sum(v0, one);
-    let root = If(more, vec![Asg(1, one), Asg(1, two)]);
-    let program = Program::new(exprs, root, 2, 0).with_widths(&[4, 16]);
-    let start = state(&program, &[15, 0], &[1], &[]);
-    let ended = state(&program, &[15, 1], &[], &[]);
+    let root = Whl(more, Box::new(Asg(0, more)));
+    let program = Program::new(exprs, root, 1, 0).with_widths(&[1]);
+    let turning = |v0: u16| state(&program, &[v0], &[1], &[]);
+    let run = |cycles: u16, v0: u16| Run {
+        schedule: vec![1; cycles as usize],
+        cycles,
+        number: 0,
+        worked: cycles,
+        after: turning(v0),
+    };
     Paper {
         name: "a condition beyond the width of its variable",
-        values: vec![15, 0],
+        values: vec![1],
         begin: 0,
-        start,
-        runs: vec![Run {
-            schedule: vec![1],
-            cycles: 5,
-            number: 0,
-            worked: 1,
-            after: ended,
-        }],
+        start: turning(1),
+        runs: vec![run(1, 0), run(2, 1), run(3, 0)],
         program,
     }
 }
