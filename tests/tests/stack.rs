@@ -206,6 +206,8 @@ fn late_loop() -> Program {
 
 fn measure_large(greatest: &mut Greatest) {
     greatest.all("wide", &wide(), &[0; 256], 2);
+    let one_bit = wide().with_widths(&[1; 256]);
+    greatest.all("wide, of one bit", &one_bit, &[0; 256], 2);
     greatest.all("shared formulas", &shared_formulas(), &[7; 256], 3);
     greatest.all("late loop", &late_loop(), &[2], 5);
     for levels in LEVELS {

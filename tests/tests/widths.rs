@@ -68,6 +68,14 @@ fn every_word_as_a_width() {
     }
 }
 
+/// Where the length of the list is cut to 16 bits, it is that of the variables.
+#[test]
+fn far_too_many_widths() {
+    let (program, _) = two_stores(16);
+    let program = program.with_widths(&[16; 65_536 + 3]);
+    assert_eq!(parts(player::check(&program)), (11, 0));
+}
+
 /// By the ASG and by the IN. Both variables start with each bit other than it will be.
 #[test]
 fn every_value_stored_at_every_width() {
