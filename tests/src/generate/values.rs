@@ -8,7 +8,7 @@ pub fn values(random: &mut Random, widths: &[u16]) -> Vec<u16> {
     widths.iter().map(|&width| value(random, width)).collect()
 }
 
-/// A value that fits. A width that is out of bounds is taken for the bound.
+/// A value that fits. A width above the greatest is taken for the greatest.
 pub fn value(random: &mut Random, width: u16) -> u16 {
     let most = ((1_u32 << width.min(MOST_WIDTH)) - 1) as u16;
     let any = match random.below(10) {

@@ -11,8 +11,7 @@ pub fn widths(random: &mut Random, count: usize) -> Vec<u16> {
     (0..count).map(|_| width_from(random, 1)).collect()
 }
 
-/// At least so many bits. Narrow variables lose bits at almost every store, so that they are drawn
-/// more often.
+/// At least so many bits. Few are drawn more often than many, since narrow variables lose more.
 pub fn width_from(random: &mut Random, least: u16) -> u16 {
     let most = match random.below(3) {
         0 => least,

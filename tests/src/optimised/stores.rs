@@ -2,6 +2,7 @@
 
 use crate::program::MOST_WIDTH;
 
+/// What a store asks of its variable, in one place of the memory.
 struct Variable {
     /// When it was last stored to; see the channels.
     stored_at: u32,
