@@ -33,8 +33,8 @@ fn expressions_right(program: &Program) -> bool {
 }
 
 fn widths_right(program: &Program) -> bool {
-    let right = |width: &u16| (1..=MOST_WIDTH).contains(width);
-    program.widths.len() == program.vars as usize && program.widths.iter().all(right)
+    let wrong = |&width: &u16| width == 0 || width > MOST_WIDTH;
+    program.widths.len() == program.vars as usize && !program.widths.iter().any(wrong)
 }
 
 /// A node whose part of the list goes on.
