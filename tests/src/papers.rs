@@ -20,11 +20,12 @@ pub use plain::{
 };
 pub use refusals::{
     eleven_comes_after_4, eleven_comes_before_5, five_comes_before_6, six_comes_before_10,
-    values_too_wide, wrong_widths,
+    values_too_wide, wrong_counters, wrong_widths,
 };
 pub use widths::{
-    begin_over_rubbish, begin_too_wide, condition_beyond_the_width, seven_into_one_bit,
-    six_into_one_bit, twelve_bit_counter, two_stores_to_one_bit, wide_formula_of_narrow_variable,
+    begin_over_rubbish, begin_too_wide, condition_beyond_the_width, one_bit_input, one_bit_loop,
+    seven_into_one_bit, six_into_one_bit, twelve_bit_counter, two_stores_to_one_bit,
+    wide_formula_of_narrow_variable,
 };
 
 use crate::program::{Program, State};
@@ -85,6 +86,8 @@ pub fn all() -> Vec<Paper> {
         stored_condition(),
         uneven_threads(),
         twelve_bit_counter(),
+        one_bit_input(),
+        one_bit_loop(),
         seven_into_one_bit(),
         six_into_one_bit(),
         begin_too_wide(),
@@ -102,7 +105,7 @@ pub fn refusals() -> Vec<Refusal> {
         five_comes_before_6(),
         six_comes_before_10(),
     ];
-    [wrong_widths(), values_too_wide(), order]
+    [wrong_widths(), wrong_counters(), values_too_wide(), order]
         .into_iter()
         .flatten()
         .collect()

@@ -160,6 +160,16 @@ fn twelve_bit_counter() {
 }
 
 #[test]
+fn one_bit_input() {
+    hold(papers::one_bit_input());
+}
+
+#[test]
+fn one_bit_loop() {
+    hold(papers::one_bit_loop());
+}
+
+#[test]
 fn seven_into_one_bit() {
     hold(papers::seven_into_one_bit());
 }
@@ -197,6 +207,11 @@ fn two_stores_to_one_bit() {
 #[test]
 fn wrong_widths() {
     papers::wrong_widths().into_iter().for_each(hold_refusal);
+}
+
+#[test]
+fn wrong_counters() {
+    papers::wrong_counters().into_iter().for_each(hold_refusal);
 }
 
 #[test]

@@ -14,7 +14,7 @@ use pahmozil_tests::statement::Statement::{self, Asg, Dly, If, In, Out, Par, Seq
 use pahmozil_tests::workloads;
 use std::hint::black_box;
 
-/// Bytes that each call may write: what was measured (6,320, 17,288 and 23,608) and a margin.
+/// Bytes that each call may write: what was measured (6,384, 17,848 and 24,168) and a margin.
 const MOST_FOR_CHECK: usize = 6_656;
 const MOST_FOR_BEGIN: usize = 18_432;
 const MOST_FOR_RUN: usize = 24_576;

@@ -1,5 +1,6 @@
 //! Inputs that are refused for their widths, and those that tell which question is asked first.
 
+use super::widths::counter;
 use super::{state, Refusal};
 use crate::expression::Expressions;
 use crate::program::Program;
@@ -33,6 +34,25 @@ pub fn wrong_widths() -> Vec<Refusal> {
         refusal("a width of 0", &[16, 0]),
         refusal("a width of 17", &[17, 16]),
         refusal("a width of 65,535", &[16, 65535]),
+    ]
+}
+
+/// A counter with a width that is none, and with a width too many.
+pub fn wrong_counters() -> Vec<Refusal> {
+    let refusal = |name: &'static str, widths: &[u16]| {
+        let program = counter(widths);
+        let state = state(&program, &[0], &[1], &[]);
+        Refusal {
+            name,
+            program,
+            state,
+            numbers: [11, 11, 11],
+        }
+    };
+    vec![
+        refusal("a counter of 0 bits", &[0]),
+        refusal("a counter of 17 bits", &[17]),
+        refusal("a counter with two widths", &[16, 16]),
     ]
 }
 

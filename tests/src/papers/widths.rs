@@ -5,14 +5,19 @@ use crate::expression::Expressions;
 use crate::program::Program;
 use crate::statement::Statement::{Asg, Dly, In, Out, Par, Whl};
 
-/// WHL 1 {v0:=v0+1}, where v0 has 12 bits: after 4,095 comes 0.
-pub fn twelve_bit_counter() -> Paper {
+/// WHL 1 {v0:=v0+1}, with these widths.
+pub(super) fn counter(widths: &[u16]) -> Program {
     let mut exprs = Expressions::new();
     let one = exprs.number(1);
     let v0 = exprs.variable(0);
     let more = exprs.sum(v0, one);
     let root = Whl(one, Box::new(Asg(0, more)));
-    let program = Program::new(exprs, root, 1, 0).with_widths(&[12]);
+    Program::new(exprs, root, 1, 0).with_widths(widths)
+}
+
+/// The counter of 12 bits: after 4,095 comes 0.
+pub fn twelve_bit_counter() -> Paper {
+    let program = counter(&[12]);
     let counting = |v0: u16| state(&program, &[v0], &[1], &[]);
     let run = |cycles: u16, v0: u16| Run {
         schedule: vec![1; cycles as usize],
@@ -67,11 +72,56 @@ pub fn six_into_one_bit() -> Paper {
     received_in_one_bit("6 received in one bit", [0, 1, 0], [0, 0, 6])
 }
 
-/// v0:=0 with 4,096 in the 12 bits of v0. That the store would mend it does not help.
-pub fn begin_too_wide() -> Paper {
+/// PAR{OUT c0 v1+4; IN c0 v0; v1:=v1+4}, where v0 has one bit and v1 has 16: of 7, v0 keeps 1.
+pub fn one_bit_input() -> Paper {
     let mut exprs = Expressions::new();
-    let zero = exprs.number(0);
-    let program = Program::new(exprs, Asg(0, zero), 1, 0).with_widths(&[12]);
+    let v1 = exprs.variable(1);
+    let four = exprs.number(4);
+    let sent = exprs.sum(v1, four);
+    let root = Par(vec![Out(0, sent), In(0, 0), Asg(1, sent)]);
+    let program = Program::new(exprs, root, 2, 1).with_widths(&[1, 16]);
+    Paper {
+        name: "an input of one bit",
+        values: vec![0, 3],
+        begin: 0,
+        start: state(&program, &[0, 3], &[1, 2, 3], &[(0, 3)]),
+        runs: vec![Run {
+            schedule: vec![1, 2, 3],
+            cycles: 5,
+            number: 0,
+            worked: 1,
+            after: state(&program, &[1, 7], &[], &[]),
+        }],
+        program,
+    }
+}
+
+/// WHL v0 {v0:=v0+1}, where v0 has one bit: 1 becomes 0, which ends the loop.
+pub fn one_bit_loop() -> Paper {
+    let mut exprs = Expressions::new();
+    let v0 = exprs.variable(0);
+    let one = exprs.number(1);
+    let more = exprs.sum(v0, one);
+    let program = Program::new(exprs, Whl(v0, Box::new(Asg(0, more))), 1, 0).with_widths(&[1]);
+    Paper {
+        name: "a loop of one bit",
+        values: vec![1],
+        begin: 0,
+        start: state(&program, &[1], &[1], &[]),
+        runs: vec![Run {
+            schedule: vec![1],
+            cycles: 5,
+            number: 0,
+            worked: 1,
+            after: state(&program, &[0], &[], &[]),
+        }],
+        program,
+    }
+}
+
+/// The counter of 12 bits from 4,096.
+pub fn begin_too_wide() -> Paper {
+    let program = counter(&[12]);
     let start = state(&program, &[4096], &[], &[]);
     Paper {
         name: "begin with a value too wide",
