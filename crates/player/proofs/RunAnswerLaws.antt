@@ -1,5 +1,5 @@
--- What run promises, from the rules' answer; and where a question before the first cycle is answered no, the rules' answer
--- from what the code found: nothing is worked and nothing written. Where all are answered yes, no item comes.
+-- What run promises, from the rules' answer; and where a question before the first cycle is answered no, the rules'
+-- answer from what the code found: nothing is worked and nothing written. Where all are answered yes, no item comes.
 use mathlib.Core.Path.{_≡_, refl, sym, ap, _∙_}
 use mathlib.Core.Bool.{Bool, true, false, cond}
 use mathlib.Core.List.{List, [], _∷_, _++_}

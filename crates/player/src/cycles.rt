@@ -24,8 +24,8 @@ fn stopped(number: u16, worked: u16) -> Ran
     }
 }
 
-// Works the cycles of a run from a state that the questions before the first cycle let by. Each cycle is handed the part
-// of the book that starts at the entries already read.
+// Works the cycles of a run from a state that the questions before the first cycle let by. Each cycle is handed the
+// part of the book that starts at the entries already read.
 pub fn work_cycles(
     exprs: &[u16],
     nodes: &[u16],

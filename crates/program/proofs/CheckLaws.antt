@@ -1,7 +1,7 @@
 -- From what the searches found to check's answer: the first question answered no gives the number, and what was found
 -- is the item.
-use mathlib.Core.Path.{_≡_, refl}
-use mathlib.Core.Bool.{true, false}
+use mathlib.Core.Path.{_≡_, refl, sym}
+use mathlib.Core.Bool.{Bool, true, false, cond}
 use Prim.Native.Nat.{ℕ, _<_}
 use borrow.Author.Tests.{lt-ltb}
 use Rattle.semantics.specs.Numbers.{below, every}
@@ -48,11 +48,11 @@ module _ (P : Program) where
               faultItem = rw (lt-ltb node (nodeCount (P .nodes)) l, f .fault l);
             }
 
-        module _ (references : every (referencesOk P) (below (nodeCount (P .nodes))) ≡ true) where
-          pub answer-11 : widthsOk P ≡ false → CheckAnswer P 11 0
-          unfolding checkNumber isFaultItem
-          answer-11 widths = record { rightNumber = rw (s, exprs, nodes, references, widths); faultItem = refl }
-
-          pub answer-0 : widthsOk P ≡ true → CheckAnswer P 0 0
-          unfolding checkNumber isFaultItem
-          answer-0 widths = record { rightNumber = rw (s, exprs, nodes, references, widths); faultItem = refl }
+        -- the last question
+        pub answer-last : every (referencesOk P) (below (nodeCount (P .nodes))) ≡ true
+            → (ok : Bool) → ok ≡ widthsOk P → CheckAnswer P (cond ok 0 11) 0
+        unfolding checkNumber isFaultItem
+        answer-last references true w =
+            record { rightNumber = rw (s, exprs, nodes, references, sym w); faultItem = refl }
+        answer-last references false w =
+            record { rightNumber = rw (s, exprs, nodes, references, sym w); faultItem = refl }

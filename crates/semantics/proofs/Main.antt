@@ -74,8 +74,8 @@ pub run-over : (P : Program) → checkNumber P ≡ 0 → (s : State) → Ready P
     → runAnswer P (n + m) s book ≡ runAnswer P n s book
 run-over = RunTheorems.run-over
 
--- One store. Where leaf i stores the value of expression e, its variable then holds as many low bits of it as it is wide,
--- and every other variable what it held.
+-- One store. Where leaf i stores the value of expression e, its variable then holds as many low bits of it as it is
+-- wide, and every other variable what it held.
 pub store-modulo : (P : Program) (marks table values : List ℕ) (i e : ℕ)
     → stores P marks i ≡ true → source P marks i ≡ some e → target P marks i < length values
     → (let v = target P marks i in let after = store P marks table values i in
@@ -83,8 +83,8 @@ pub store-modulo : (P : Program) (marks table values : List ℕ) (i e : ℕ)
     × ((w : ℕ) → w ≢ v → getD after w 0 ≡ getD values w 0))
 store-modulo = VariableWidths.store-modulo
 
--- For an accepted program and a state that questions 5 and 6 let by, after any number of cycles by any book no value has
--- more bits than its variable.
+-- For an accepted program and a state that questions 5 and 6 let by, after any number of cycles by any book no value
+-- has more bits than its variable.
 pub variable-widths : (P : Program) → checkNumber P ≡ 0 → (s : State) → Ready P s
     → (n : ℕ) (book : List ℕ) (v : ℕ) → v < P .variables
     → getD (runAnswer P n s book .state .values) v 0 < 2 ^ widthAt (P .widths) v

@@ -1,6 +1,6 @@
 -- `check` gives the first question answered no, with what the search for that question found.
 use mathlib.Core.Path.{_≡_, sym, _∙_}
-use mathlib.Core.Bool.{true}
+use mathlib.Core.Bool.{true, cond}
 use native.Mathlib.Omega.{arith}
 use borrow.Author.Needs.{needs}
 use borrow.Author.Tests.{not-true, not-false}
@@ -8,9 +8,9 @@ use Rattle.semantics.specs.Numbers.{below, every}
 use Rattle.semantics.specs.Program.{Program, exprCount, nodeCount}
 use Rattle.semantics.specs.Check.{sizesOk, exprOk, nodeOk, referencesOk}
 use Rattle.semantics.proofs.Lists.QuestionLaws.{sized-limits}
-use Rattle.program.specs.Answer.{programOf}
+use Rattle.program.specs.Answer.{programOf, CheckAnswer}
 use Rattle.program.specs.Search.{FirstFault}
-use Rattle.program.proofs.CheckLaws.{answer-1, answer-2, answer-3, answer-4, answer-11, answer-0}
+use Rattle.program.proofs.CheckLaws.{answer-1, answer-2, answer-3, answer-4, answer-last}
 use Rattle.program.proofs.SearchLaws.{not-found}
 use Rattle.program.proofs.check.Statement.{statement}
 use Rattle.program.proofs.check.Tie as tie
@@ -92,25 +92,23 @@ references : (c : tie.Else4)
     every (referencesOk P) (below (nodeCount (P .nodes))) ≡ true
 references c = not-found _ _ _ (names-searched (c .before)) (c .if4 .left)
 
-returns-5 : tie.Need-returns-5
-returns-5 c =
-    let r = c .before .before in
-    let n = r .before .before in
+-- ---- question 11 is asked
+last-asked : (c : tie.After-widths-ok)
+    → let P = program (c .before .before .before .before .before .before .before .before) in
+    CheckAnswer P (cond (c .widths-ok .result) 0 11) 0
+last-asked c =
+    let n = c .before .before .before in
     let e = n .before .before in
     let b = e .before .before in
     let x = start (b .before) .args in
-    answer-11 (program (b .before)) (sizes b) (exprs e) (nodes n) (references r)
-    (sym (c .before .widths-ok .ensures (x .exprs .now) (x .nodes .now) (x .chans)) ∙ not-true _ (c .if5 .taken))
+    answer-last (program (b .before)) (sizes b) (exprs e) (nodes n) (references (c .before)) (c .widths-ok .result)
+    (c .widths-ok .ensures (x .exprs .now) (x .nodes .now) (x .chans))
+
+returns-5 : tie.Need-returns-5
+returns-5 c = rw (not-true (c .before .widths-ok .result) (c .if5 .taken)) at (last-asked (c .before))
 
 returns-6 : tie.Need-returns-6
-returns-6 c =
-    let r = c .before .before in
-    let n = r .before .before in
-    let e = n .before .before in
-    let b = e .before .before in
-    let x = start (b .before) .args in
-    answer-0 (program (b .before)) (sizes b) (exprs e) (nodes n) (references r)
-    (sym (c .before .widths-ok .ensures (x .exprs .now) (x .nodes .now) (x .chans)) ∙ not-false _ (c .if5 .left))
+returns-6 c = rw (not-false (c .before .widths-ok .result) (c .if5 .left)) at (last-asked (c .before))
 
 pub check-spec : {M : Type 1} → statement M
 check-spec =

@@ -22,6 +22,6 @@ pub samples-pass : allPass samples ≡ true
 unfolding samples upFrom every any filter distinct opOf kindOf apply valueOf firstValues parentBelow ancestorsBelow
     sizesOk exprWordsOk kindOk endWithin endOk parentOk childrenOk unusedOk nodeOk referenceWordsOk widthOk widthsOk
     checkNumber startBelow startFrom forest statements treeOf lengthsOk marksAreBits leavesMarked pairsMeetInPar
-    holdsMark liveChildren countsRight controlFormed valuesInRange wellFormed enter leaveChild leaveTo waits channelsFree
-    targetsApart store areActive newValues visit walked cycle run rootWalk beginAnswer runAnswer
+    holdsMark liveChildren countsRight controlFormed valuesInRange wellFormed enter leaveChild leaveTo waits
+    channelsFree targetsApart store areActive newValues visit walked cycle run rootWalk beginAnswer runAnswer
 samples-pass = refl
