@@ -65,7 +65,7 @@ entries-read = RunTheorems.entries-read
 pub run-then-run : (P : Program) → checkNumber P ≡ 0 → (s : State) → Ready P s
     → (n m : ℕ) (book : List ℕ) → runAnswer P n s book .worked ≡ n
     → (let r = run P n s book in let a = runAnswer P m (r .state) (r .unread) in
-    runAnswer P (n + m) s book ≡ record { number = a .number; worked = n + a .worked; state = a .state })
+    runAnswer P (n + m) s book ≡ record { number = a .number; item = a .item; worked = n + a .worked; state = a .state })
 run-then-run = RunTheorems.run-then-run
 
 -- Where a run of n cycles works fewer, a run of n + m cycles has the same answer.

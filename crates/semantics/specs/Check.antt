@@ -1,6 +1,6 @@
 -- Questions 1 to 4 of "Questions in order", with the limits of "Program lists", and question 11 of request 1: which
--- programs are accepted, and which item has a fault.
-use mathlib.Core.Bool.{Bool, true, false, cond, not, _&&_}
+-- programs are accepted, and from request 2 which item comes with a number.
+use mathlib.Core.Bool.{Bool, true, false, cond, _&&_}
 use mathlib.Core.List.{List, [], _∷_}
 use mathlib.Core.Option.{Option, none, some}
 use Prim.Native.Nat.{ℕ, suc, _%_}
@@ -13,8 +13,8 @@ use Rattle.semantics.specs.Program.Op.{NUMBER, VARIABLE, BINARY, UNKNOWN
 use Rattle.semantics.specs.Program.Kind.{SEQ, PAR, IF, WHL, LEAF, UNKNOWN}
 use Rattle.semantics.specs.Program.Leaf.{ASG, IN, OUT, DLY}
 use Rattle.semantics.specs.Parents.{parent, depth, children}
-use Rattle.semantics.specs.Questions.{Question, ask, firstNo}
-use Rattle.semantics.specs.Widths.{widthsOk}
+use Rattle.semantics.specs.Questions.{Question, ask, firstNo, lowestFault}
+use Rattle.semantics.specs.Widths.{widthAt, widthOk, widthsOk}
 
 -- ---- question 1
 -- Both lists are whole records, and N, E, V and C are within their limits.
@@ -119,10 +119,13 @@ checkQuestions P =
 unfoldable pub checkNumber : Program → ℕ
 checkNumber P = firstNo (checkQuestions P)
 
--- The item that may come with a number: a faulty expression with 2, a faulty node with 3 and 4, and 0 with the rest.
-unfoldable pub isFaultItem : Program → ℕ → ℕ → Bool
-isFaultItem P number item =
-    cond (eqb number 2) (ltb item (exprCount (P .exprs)) && not (exprOk P item))
-    (cond (eqb number 3) (ltb item (nodeCount (P .nodes)) && not (nodeOk (P .nodes) item))
-    (cond (eqb number 4) (ltb item (nodeCount (P .nodes)) && not (referencesOk P item))
-    (eqb item 0)))
+-- The item that comes with a number: with 2 the lowest faulty expression, with 3 and 4 the lowest faulty node, and with
+-- 11, where there is a width for each variable, the lowest variable whose width is bad. With anything else it is 0.
+unfoldable pub faultItem : Program → ℕ → ℕ
+faultItem P number =
+    let badWidth = lowestFault (λ v. widthOk (widthAt (P .widths) v)) (P .variables) in
+    cond (eqb number 2) (lowestFault (exprOk P) (exprCount (P .exprs)))
+    (cond (eqb number 3) (lowestFault (nodeOk (P .nodes)) (nodeCount (P .nodes)))
+    (cond (eqb number 4) (lowestFault (referencesOk P) (nodeCount (P .nodes)))
+    (cond (eqb number 11) (cond (eqb (length (P .widths)) (P .variables)) badWidth 0)
+    0)))

@@ -71,13 +71,13 @@ unfoldable pub plainBeginAnswer : Program → State → Answer
 plainBeginAnswer P s =
     let w = rootWalk P (s .values) in
     let q = firstNo (plainCheckQuestions P ++ ask 5 (lengthsOk P s) ∷ ask 10 (not (w .looped)) ∷ []) in
-    cond (eqb q 0) (answer 0 (record { values = s .values; marks = w .marks; counts = w .counts })) (answer q s)
+    cond (eqb q 0) (answer P 0 0 (record { values = s .values; marks = w .marks; counts = w .counts })) (answer P q 0 s)
 
 -- Run asked questions 1 to 6, the last of marks and counts alone, and then worked cycles.
 unfoldable pub plainRunAnswer : Program → ℕ → State → List ℕ → Answer
 plainRunAnswer P n s book =
     let r = plainRun P n s book in
-    let ran : Answer = record { number = r .number; worked = r .worked; state = r .state } in
+    let ran : Answer = answer P (r .number) (r .worked) (r .state) in
     let formed = controlFormed (P .nodes) (s .marks) (s .counts) in
     let q = firstNo (plainCheckQuestions P ++ ask 5 (lengthsOk P s) ∷ ask 6 formed ∷ []) in
-    cond (eqb q 0) ran (answer q s)
+    cond (eqb q 0) ran (answer P q 0 s)

@@ -1,6 +1,6 @@
--- The papers of the section "Sample papers" that are to be proved, three more, and those of request 1, as one list.
--- Each begins and then runs, through all the questions, as the calls do; `proofs/Run/SamplesPass.antt` has the theorem
--- on the list.
+-- The papers of the section "Sample papers" that are to be proved, three more, and those of requests 1 and 2, as one
+-- list. Each begins and then runs, through all the questions, as the calls do; `proofs/Run/SamplesPass.antt` has the
+-- theorem on the list.
 use mathlib.Core.Bool.{Bool, true, false, _&&_}
 use mathlib.Core.List.{List, [], _∷_, _++_}
 use Prim.Native.Nat.{ℕ}
@@ -8,7 +8,7 @@ use lib.Dec.{eqb}
 use lib.ListN.{replicate}
 use Rattle.semantics.specs.Program.{Program, nodeCount}
 use Rattle.semantics.specs.State.{State}
-use Rattle.semantics.specs.Check.{checkNumber}
+use Rattle.semantics.specs.Check.{checkNumber, faultItem}
 use Rattle.semantics.specs.Calls.{Answer, beginAnswer, runAnswer}
 
 -- A paper: a program with starting values, the cycles asked and the book; what check, begin and run must answer.
@@ -17,7 +17,8 @@ pub record Paper : Type 0 where
   pub values : List ℕ
   pub cycles : ℕ
   pub book : List ℕ
-  pub check : ℕ
+  pub checkNumber : ℕ
+  pub checkItem : ℕ
   pub begin : Answer
   pub run : Answer
 
@@ -31,20 +32,22 @@ sameList (x ∷ xs) (y ∷ ys) = eqb x y && sameList xs ys
 
 abbrev pub sameAnswer : Answer → Answer → Bool
 sameAnswer a b =
-    eqb (a .number) (b .number) && eqb (a .worked) (b .worked) && sameList (a .state .values) (b .state .values)
-    && sameList (a .state .marks) (b .state .marks) && sameList (a .state .counts) (b .state .counts)
+    eqb (a .number) (b .number) && eqb (a .item) (b .item) && eqb (a .worked) (b .worked)
+    && sameList (a .state .values) (b .state .values) && sameList (a .state .marks) (b .state .marks)
+    && sameList (a .state .counts) (b .state .counts)
 
 -- Begin is lent marks of 1 and counts of 9, which it must ignore, and leave where it refuses.
-abbrev pub lent : Paper → State
-lent p =
-    let n = nodeCount (p .program .nodes) in
-    record { values = p .values; marks = replicate n 1; counts = replicate n 9 }
+abbrev pub lent : Program → List ℕ → State
+lent P values =
+    let n = nodeCount (P .nodes) in
+    record { values = values; marks = replicate n 1; counts = replicate n 9 }
 
 -- Run starts from what begin left.
 abbrev pub passes : Paper → Bool
 passes p =
-    let begunAnswer = beginAnswer (p .program) (lent p) in
-    eqb (checkNumber (p .program)) (p .check) && sameAnswer begunAnswer (p .begin)
+    let begunAnswer = beginAnswer (p .program) (lent (p .program) (p .values)) in
+    eqb (checkNumber (p .program)) (p .checkNumber)
+    && eqb (faultItem (p .program) (checkNumber (p .program))) (p .checkItem) && sameAnswer begunAnswer (p .begin)
     && sameAnswer (runAnswer (p .program) (p .cycles) (begunAnswer .state) (p .book)) (p .run)
 
 abbrev pub allPass : List Paper → Bool
@@ -68,13 +71,21 @@ programOf exprs nodes widths v c =
 abbrev pub program : List ℕ → List ℕ → ℕ → ℕ → Program
 program exprs nodes v c = programOf exprs nodes (replicate v 16) v c
 
--- number, cycles worked, values, marks, counts
+-- number, cycles worked, values, marks, counts; the item is 0
 abbrev pub gives : ℕ → ℕ → List ℕ → List ℕ → List ℕ → Answer
-gives q k vs ms cs = record { number = q; worked = k; state = record { values = vs; marks = ms; counts = cs } }
+gives q k vs ms cs =
+    record { number = q; item = 0; worked = k; state = record { values = vs; marks = ms; counts = cs } }
 
 -- a program that check accepts: values, cycles, book, what begin gives, what run gives
 abbrev pub paper : Program → List ℕ → ℕ → List ℕ → Answer → Answer → Paper
-paper P vs n book b r = record { program = P; values = vs; cycles = n; book = book; check = 0; begin = b; run = r }
+paper P vs n book b r =
+    record { program = P; values = vs; cycles = n; book = book; checkNumber = 0; checkItem = 0; begin = b; run = r }
+
+-- a program that all three calls refuse, with a number and an item, when one cycle is asked: nothing is written
+abbrev pub refused : Program → List ℕ → ℕ → ℕ → Paper
+refused P vs q i =
+    let a : Answer = record { number = q; item = i; worked = 0; state = lent P vs } in
+    record { program = P; values = vs; cycles = 1; book = 1 ∷ []; checkNumber = q; checkItem = i; begin = a; run = a }
 
 -- ---- the programs
 
@@ -156,6 +167,29 @@ abbrev pub oneBitLoop : Program
 oneBitLoop =
     programOf (expr 1 0 0 ++ expr 0 1 0 ++ expr 2 0 1) (node 7 65535 2 0 0 ++ node 3 0 2 0 2) (1 ∷ []) 1 0
 
+-- PAR{v0:=1; v1:=v0; v2:=v3}, of four variables: its expressions and its nodes
+abbrev pub threeSources : List ℕ
+threeSources = expr 0 1 0 ++ expr 1 0 0 ++ expr 1 3 0
+
+abbrev pub threeStores : List ℕ
+threeStores = node 2 65535 4 0 0 ++ node 3 0 2 0 0 ++ node 3 0 3 1 1 ++ node 3 0 4 2 2
+
+-- with faults of question 2: expression 1 is a variable that is not there, and expression 2 has itself for an operand
+abbrev pub faultySources : List ℕ
+faultySources = expr 0 1 0 ++ expr 1 4 0 ++ expr 2 2 0
+
+-- with faults of question 4: node 1 stores to v4, and node 2 the value of an expression that is not there
+abbrev pub faultyReferences : List ℕ
+faultyReferences = node 2 65535 4 0 0 ++ node 3 0 2 4 0 ++ node 3 0 3 1 3 ++ node 3 0 4 2 2
+
+-- and with faults of question 3 besides: node 2 names another parent, and node 3 has no kind
+abbrev pub faultyNodes : List ℕ
+faultyNodes = node 2 65535 4 0 0 ++ node 3 0 2 4 0 ++ node 3 1 3 1 3 ++ node 99 0 4 2 2
+
+-- with faults of question 11: v2 is 17 bits wide, and v3 is 0
+abbrev pub faultyWidths : List ℕ
+faultyWidths = 16 ∷ 1 ∷ 17 ∷ 0 ∷ []
+
 -- ---- the list
 
 abbrev pub swapBegun : Answer
@@ -178,14 +212,12 @@ abbrev pub counterBegun : ℕ → Answer
 counterBegun v = gives 0 0 (v ∷ []) (0 ∷ 1 ∷ []) (0 ∷ 0 ∷ [])
 
 -- nothing is written: the lists are those that begin is lent
-abbrev pub counterRefused : ℕ → ℕ → Answer
-counterRefused q v = gives q 0 (v ∷ []) (1 ∷ 1 ∷ []) (9 ∷ 9 ∷ [])
+abbrev pub counterTooWide : Answer
+counterTooWide = gives 6 0 (4096 ∷ []) (1 ∷ 1 ∷ []) (9 ∷ 9 ∷ [])
 
--- a counter that check, begin and run refuse
-abbrev pub refusedPaper : Program → ℕ → Paper
-refusedPaper P q =
-    let refused = counterRefused q 0 in
-    record { program = P; values = 0 ∷ []; cycles = 1; book = 1 ∷ []; check = q; begin = refused; run = refused }
+-- four variables and no channel, with values of 0: the expressions, nodes and widths are refused, by a number and an item
+abbrev pub refusedStores : List ℕ → List ℕ → List ℕ → ℕ → ℕ → Paper
+refusedStores exprs nodes widths q i = refused (programOf exprs nodes widths 4 0) (0 ∷ 0 ∷ 0 ∷ 0 ∷ []) q i
 
 unfoldable pub samples : List Paper
 samples =
@@ -256,9 +288,19 @@ samples =
     (gives 0 0 (1 ∷ []) (0 ∷ 1 ∷ []) (0 ∷ 0 ∷ []))
     (gives 0 1 (0 ∷ []) (0 ∷ 0 ∷ []) (0 ∷ 0 ∷ []))
     -- a value too wide: begin and run refuse with 6
-    ∷ paper (counter (12 ∷ [])) (4096 ∷ []) 3 (1 ∷ 1 ∷ 1 ∷ []) (counterRefused 6 4096) (counterRefused 6 4096)
+    ∷ paper (counter (12 ∷ [])) (4096 ∷ []) 3 (1 ∷ 1 ∷ 1 ∷ []) counterTooWide counterTooWide
     -- a width of 0, one of 17, and two widths for one variable
-    ∷ refusedPaper (counter (0 ∷ [])) 11
-    ∷ refusedPaper (counter (17 ∷ [])) 11
-    ∷ refusedPaper (counter (16 ∷ 16 ∷ [])) 11
+    ∷ refused (counter (0 ∷ [])) (0 ∷ []) 11 0
+    ∷ refused (counter (17 ∷ [])) (0 ∷ []) 11 0
+    ∷ refused (counter (16 ∷ 16 ∷ [])) (0 ∷ []) 11 0
+    -- request 2: two faults or more of each of 2, 3, 4 and 11, mended question by question
+    ∷ refusedStores faultySources faultyNodes faultyWidths 2 1
+    ∷ refusedStores threeSources faultyNodes faultyWidths 3 2
+    ∷ refusedStores threeSources faultyReferences faultyWidths 4 1
+    ∷ refusedStores threeSources threeStores faultyWidths 11 2
+    -- a width too many or too few, beside those that are bad
+    ∷ refusedStores threeSources threeStores (faultyWidths ++ 16 ∷ []) 11 0
+    ∷ refusedStores threeSources threeStores (16 ∷ 17 ∷ 0 ∷ []) 11 0
+    -- a word too many among the expressions, of which one is faulty
+    ∷ refusedStores (faultySources ++ 0 ∷ []) threeStores faultyWidths 1 0
     ∷ []

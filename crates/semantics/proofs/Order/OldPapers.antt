@@ -166,7 +166,7 @@ module _ (P : Program) (wide : P .widths ≡ replicate (P .variables) 16) where
           let w = rootWalk P (s .values) in
           let begun : State = record { values = s .values; marks = w .marks; counts = w .counts } in
           let loops = ask 10 (not (w .looped)) ∷ [] in
-          ap (λ (q : ℕ). cond (eqb q 0) (answer 0 begun) (answer q s))
+          ap (λ (q : ℕ). cond (eqb q 0) (answer P 0 0 begun) (answer P q 0 s))
           (same-number (ask 6 (valuesInRange (P .widths) (s .values)) ∷ loops) loops (λ h. rw (all-in-range h)))
 
       same-answer : (n : ℕ) (book : List ℕ) → runAnswer P n s book ≡ plainRunAnswer P n s book
@@ -174,11 +174,11 @@ module _ (P : Program) (wide : P .widths ≡ replicate (P .variables) 16) where
       same-answer n book =
           let formed = ask 6 (controlFormed (P .nodes) (s .marks) (s .counts)) ∷ [] in
           let questions = plainCheckQuestions P ++ ask 5 (lengthsOk P s) ∷ formed in
-          ap (λ (q : ℕ). cond (eqb q 0) (answerOf (run P n s book)) (answer q s))
+          ap (λ (q : ℕ). cond (eqb q 0) (answerOf P (run P n s book)) (answer P q 0 s))
           (same-number (ask 6 (wellFormed P s) ∷ []) formed (λ h. rw (all-in-range h)))
-          ∙ cond-when (eqb (firstNo questions) 0) (answer (firstNo questions) s) (λ z.
+          ∙ cond-when (eqb (firstNo questions) 0) (answer P (firstNo questions) 0 s) (λ z.
           let (_, (_, (_, (_, (lengths, _))))) = yes-all questions refl (eqb-true (firstNo questions) 0 z) in
-          ap answerOf (same-run n s book (of-words lengths)))
+          ap (answerOf P) (same-run n s book (of-words lengths)))
 
 pub old-papers : (P : Program) → P .widths ≡ replicate (P .variables) 16 → areWords (P .exprs) ≡ true
     → (s : State) → areWords (s .values) ≡ true

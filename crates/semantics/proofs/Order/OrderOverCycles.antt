@@ -58,7 +58,7 @@ module _ (P : Program) (Ready : State → Type 0)
   -- every book that goes wrong where b does is answered as b is
   abbrev Same : ℕ → State → List ℕ → Type 0
   Same n s b =
-      (d : List ℕ) → Ready s → firstWrong P n s b ≡ firstWrong P n s d → answerOf (run P n s b) ≡ answerOf (run P n s d)
+      (d : List ℕ) → Ready s → firstWrong P n s b ≡ firstWrong P n s d → answerOf P (run P n s b) ≡ answerOf P (run P n s d)
 
   same-answer : (n : ℕ) (s : State) (b : List ℕ) → Same n s b
   same-answer = run-induction P Same
@@ -79,7 +79,7 @@ module _ (P : Program) (Ready : State → Type 0)
           (map-suc-injective _ _ (sym (wrong-worked P n s s′ b c) ∙ h ∙ wrong-worked P n s s′ d c′))))
 
   pub order-over-cycles : (n : ℕ) (s : State) (b d : List ℕ) → Ready s
-      → (answerOf (run P n s b) ≡ answerOf (run P n s d)) ↔ (firstWrong P n s b ≡ firstWrong P n s d)
+      → (answerOf P (run P n s b) ≡ answerOf P (run P n s d)) ↔ (firstWrong P n s b ≡ firstWrong P n s d)
   order-over-cycles n s b d r = (
     λ h. wrong-read-off P n s b ∙ ap wrongCycle h ∙ sym (wrong-read-off P n s d),
     same-answer n s b d r,

@@ -22,7 +22,7 @@ use Rattle.semantics.proofs.Order.CycleOrder.{any-entries, leaves-ready
 
 -- with the questions before the first cycle answered yes, run's answer is that of the cycles
 pub answer-of-run : (P : Program) → checkNumber P ≡ 0 → (s : State) → Ready P s → (n : ℕ) (book : List ℕ)
-    → runAnswer P n s book ≡ answerOf (run P n s book)
+    → runAnswer P n s book ≡ answerOf P (run P n s book)
 unfolding runAnswer checkNumber
 answer-of-run P accepted s ready n book =
     let more = ask 5 (lengthsOk P s) ∷ ask 6 (wellFormed P s) ∷ [] in

@@ -43,8 +43,9 @@ entered-ready P accepted values l in-range =
     (begin-formed (treeOf (P .nodes)) (nodeCount (P .nodes)) (tree .placed) (tree .ends) (isTrue P values))
 
 -- an answer with number 0 is that of the state that was written
-zero-answered : (q : ℕ) (lent written : State) → cond (eqb q 0) (answer 0 written) (answer q lent) .number ≡ 0 → q ≡ 0
-zero-answered q lent written h =
+zero-answered : (P : Program) (q : ℕ) (lent written : State)
+    → cond (eqb q 0) (answer P 0 0 written) (answer P q 0 lent) .number ≡ 0 → q ≡ 0
+zero-answered P q lent written h =
     elim (true-or-false (eqb q 0)) [ inl e ↦ eqb-true q 0 e | inr e ↦ rw e at h ]
 
 -- where begin answers 0, questions 5 and 6 let the state by that it leaves
@@ -54,7 +55,7 @@ begun-ready P s h =
     let w = rootWalk P (s .values) in
     let inRange = valuesInRange (P .widths) (s .values) in
     let questions = checkQuestions P ++ ask 5 (lengthsOk P s) ∷ ask 6 inRange ∷ ask 10 (not (w .looped)) ∷ [] in
-    let zero-number = zero-answered (firstNo questions) s _ h in
+    let zero-number = zero-answered P (firstNo questions) s _ h in
     let (sizes, (exprs, (nodes, (ranges, (widths, (lengths, (in-range, _))))))) = yes-all questions refl zero-number in
     let accepted = all-yes (checkQuestions P) (sizes, (exprs, (nodes, (ranges, (widths, tt))))) in
     rw zero-number (entered-ready P accepted (s .values) (fits-lengths P s lengths .values) in-range)
@@ -95,11 +96,11 @@ module _ (P : Program) (accepted : checkNumber P ≡ 0) where
     -- with the rest of the book
     pub run-then-run : (n m : ℕ) (book : List ℕ) → runAnswer P n s book .worked ≡ n
         → (let r = run P n s book in let a = runAnswer P m (r .state) (r .unread) in
-        runAnswer P (n + m) s book ≡ record { number = a .number; worked = n + a .worked; state = a .state })
+        runAnswer P (n + m) s book ≡ record { number = a .number; item = a .item; worked = n + a .worked; state = a .state })
     run-then-run n m book w =
         let r : Run = run P n s book in
         let w′ : r .worked ≡ n = sym (ap (λ (a : Answer). a .worked) (answer-of-run P accepted s ready n book)) ∙ w in
-        answer-of-run P accepted s ready (n + m) book ∙ ap answerOf (run-goes-on P m n s book w′)
+        answer-of-run P accepted s ready (n + m) book ∙ ap (answerOf P) (run-goes-on P m n s book w′)
         ∙ rw (answer-of-run P accepted (r .state) (cycles-ready n s book ready) m (r .unread))
 
     -- and where the run of n works fewer, the longer run is the same
@@ -108,4 +109,4 @@ module _ (P : Program) (accepted : checkNumber P ≡ 0) where
     run-over n m book w =
         let e = answer-of-run P accepted s ready n book in
         answer-of-run P accepted s ready (n + m) book
-        ∙ ap answerOf (run-is-over P m n s book (rw e at w)) ∙ sym e
+        ∙ ap (answerOf P) (run-is-over P m n s book (rw e at w)) ∙ sym e

@@ -140,8 +140,8 @@ module _ (P : Program) where
   -- ---- what the answer says of it
 
   pub wrong-read-off : (n : ℕ) (s : State) (book : List ℕ)
-      → firstWrong P n s book ≡ wrongCycle (answerOf (run P n s book))
-  wrong-read-off = run-induction P (λ n s book. firstWrong P n s book ≡ wrongCycle (answerOf (run P n s book)))
+      → firstWrong P n s book ≡ wrongCycle (answerOf P (run P n s book))
+  wrong-read-off = run-induction P (λ n s book. firstWrong P n s book ≡ wrongCycle (answerOf P (run P n s book)))
       (λ s book. rw (run-no-cycle P s book) (wrong-no-cycle s book))
       (λ n s book e. rw (run-ended P (suc n) s book e) (wrong-ended (suc n) s book e))
       at-refused
@@ -149,7 +149,7 @@ module _ (P : Program) where
       ∙ map-cond (eqb (run P n s′ (laterEntries s book) .number) 7) (run P n s′ (laterEntries s book) .worked) none))
     where
       at-refused : (n q : ℕ) (s : State) (book : List ℕ) → Refuses P s book q
-          → firstWrong P (suc n) s book ≡ wrongCycle (answerOf (run P (suc n) s book))
+          → firstWrong P (suc n) s book ≡ wrongCycle (answerOf P (run P (suc n) s book))
       at-refused n q s book c =
           rw (run-refused P n q s book c)
           (elim (true-or-false (areActive (s .marks) (nextEntries s book))) [

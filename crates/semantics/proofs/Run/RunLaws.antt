@@ -19,7 +19,7 @@ use Rattle.semantics.specs.Completion.{channelsFree, targetsApart}
 use Rattle.semantics.specs.Cycle.{Outcome, answered, areActive, newValues, walked, cycle}
 use Rattle.semantics.specs.Cycle.Outcome.{refused, advancesTo}
 use Rattle.semantics.specs.Run.{Run, run, stopped, oneMore, nextEntries, laterEntries}
-use Rattle.semantics.specs.Calls.{Answer}
+use Rattle.semantics.specs.Calls.{Answer, answer}
 use Rattle.semantics.specs.Book.{comesTo, entriesAsked}
 
 -- ---- the state that a worked cycle leaves
@@ -64,12 +64,12 @@ module _ (P : Program) (s : State) (es : List ℕ) where
 
 -- ---- what a call answers of a run
 
--- The number, the cycles worked and the state; not what was left of the book.
-abbrev pub answerOf : Run → Answer
-answerOf r = record { number = r .number; worked = r .worked; state = r .state }
+-- The number and its item, the cycles worked and the state; not what was left of the book.
+abbrev pub answerOf : Program → Run → Answer
+answerOf P r = answer P (r .number) (r .worked) (r .state)
 
 abbrev pub oneMoreOf : Answer → Answer
-oneMoreOf a = record { number = a .number; worked = suc (a .worked); state = a .state }
+oneMoreOf a = record { number = a .number; item = a .item; worked = suc (a .worked); state = a .state }
 
 -- ---- a run after a run
 
@@ -256,7 +256,7 @@ module _ (P : Program) where
 
   -- two books with the same first j entries have one answer, where the run asks for no more than j of the first
   pub later-not-read : (n : ℕ) (s : State) (b d : List ℕ) (j : ℕ) → entriesAsked P n s b ≤ j → take j b ≡ take j d
-      → answerOf (run P n s b) ≡ answerOf (run P n s d)
+      → answerOf P (run P n s b) ≡ answerOf P (run P n s d)
   later-not-read = run-induction Same
       (λ s b d j l t. rw (run-no-cycle s b, run-no-cycle s d))
       (λ n s b e d j l t. rw (run-ended (suc n) s b e, run-ended (suc n) s d e))
@@ -266,7 +266,7 @@ module _ (P : Program) where
       Same : ℕ → State → List ℕ → Type 0
       Same n s b =
           (d : List ℕ) (j : ℕ) → entriesAsked P n s b ≤ j → take j b ≡ take j d
-          → answerOf (run P n s b) ≡ answerOf (run P n s d)
+          → answerOf P (run P n s b) ≡ answerOf P (run P n s d)
 
       same-cycle : (s : State) (b d : List ℕ) (j : ℕ) → markCount (s .marks) ≤ j → take j b ≡ take j d
           → cycle P s (nextEntries s d) ≡ cycle P s (nextEntries s b)
