@@ -3,6 +3,7 @@
 pub mod Logic
 pub mod NumberLaws
 pub mod QuestionLaws
+pub mod FaultLaws
 pub mod KindLaws
 pub mod KindNumbers
 pub mod LeafKinds

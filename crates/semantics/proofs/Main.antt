@@ -7,12 +7,12 @@ use mathlib.Core.Logic.{_↔_, _≢_}
 use mathlib.Core.Option.{none, some}
 use Prim.Native.Nat.{ℕ, _+_, _%_, _^_, _≤_, _<_}
 use lib.ListN.{length, getD, take, replicate}
-use Rattle.semantics.specs.Program.{Program}
-use Rattle.semantics.specs.Check.{checkNumber}
-use Rattle.semantics.specs.Widths.{widthAt}
+use Rattle.semantics.specs.Program.{Program, exprCount, nodeCount}
+use Rattle.semantics.specs.Check.{exprOk, nodeOk, referencesOk, checkNumber, faultItem}
+use Rattle.semantics.specs.Widths.{widthAt, widthOk}
 use Rattle.semantics.specs.State.{State, lengthsOk, wellFormed}
 use Rattle.semantics.specs.Completion.{stores, target, source, store}
-use Rattle.semantics.specs.Facts.{Ready}
+use Rattle.semantics.specs.Facts.{Ready, IsLowestFault}
 use Rattle.semantics.specs.Run.{run}
 use Rattle.semantics.specs.Calls.{beginAnswer, runAnswer}
 use Rattle.semantics.specs.Book.{entriesAsked, firstWrong}
@@ -23,10 +23,11 @@ use Rattle.semantics.proofs.Order.OrderRule
 use Rattle.semantics.proofs.Order.RunTheorems
 use Rattle.semantics.proofs.Order.VariableWidths
 use Rattle.semantics.proofs.Order.OldPapers
+use Rattle.semantics.proofs.Order.FirstFault
 
 -- The order rule. For an accepted program and a state that questions 5 and 6 let by, two books give equal answers of
--- run (number, cycles worked and the three lists) exactly when both first go wrong at the same cycle, or neither goes
--- wrong.
+-- run (number, item, cycles worked and the three lists) exactly when both first go wrong at the same cycle, or neither
+-- goes wrong.
 pub order-rule : (P : Program) → checkNumber P ≡ 0
     → (s : State) → lengthsOk P s ≡ true → wellFormed P s ≡ true
     → (n : ℕ) (b d : List ℕ)
@@ -97,6 +98,25 @@ pub old-papers : (P : Program) → P .widths ≡ replicate (P .variables) 16 →
     → (checkNumber P ≡ plainCheckNumber P) × (beginAnswer P s ≡ plainBeginAnswer P s)
     × ((n : ℕ) (book : List ℕ) → runAnswer P n s book ≡ plainRunAnswer P n s book)
 old-papers = OldPapers.old-papers
+
+-- The first fault. With 2 check's item is the lowest faulty expression, with 3 and 4 the lowest faulty node, and with 11
+-- the lowest variable whose width is bad, where there is a width for each variable. With 11 it is 0 where there is not,
+-- and with every other number.
+pub first-fault : (P : Program)
+    → (checkNumber P ≡ 2 → IsLowestFault (exprOk P) (exprCount (P .exprs)) (faultItem P (checkNumber P)))
+    × (checkNumber P ≡ 3 → IsLowestFault (nodeOk (P .nodes)) (nodeCount (P .nodes)) (faultItem P (checkNumber P)))
+    × (checkNumber P ≡ 4 → IsLowestFault (referencesOk P) (nodeCount (P .nodes)) (faultItem P (checkNumber P)))
+    × (length (P .widths) ≡ P .variables → checkNumber P ≡ 11
+    → IsLowestFault (λ v. widthOk (widthAt (P .widths) v)) (P .variables) (faultItem P (checkNumber P)))
+    × (length (P .widths) ≢ P .variables → faultItem P 11 ≡ 0)
+    × ((q : ℕ) → q ≢ 2 → q ≢ 3 → q ≢ 4 → q ≢ 11 → faultItem P q ≡ 0)
+first-fault = FirstFault.first-fault
+
+-- Begin and run give check's item, for every program, state, number of cycles and book.
+pub item-of-check : (P : Program) (s : State) (n : ℕ) (book : List ℕ)
+    → (beginAnswer P s .item ≡ faultItem P (checkNumber P))
+    × (runAnswer P n s book .item ≡ faultItem P (checkNumber P))
+item-of-check = FirstFault.item-of-check
 
 -- Check, begin and run answer every sample paper of specs/Samples as written there.
 pub samples-pass : allPass samples ≡ true

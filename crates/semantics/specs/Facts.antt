@@ -1,5 +1,5 @@
--- No rules: what the questions before the first cycle say when they are answered yes, as facts. Contracts of the code
--- below the calls ask and give these.
+-- No rules: what the questions before the first cycle say when they are answered yes, as facts, and what a first fault
+-- is. Contracts of the code below the calls ask and give these; the theorem `first-fault` is said with the last.
 use mathlib.Core.Path.{_≡_}
 use mathlib.Core.Bool.{Bool, true, false, _&&_}
 use mathlib.Core.List.{List}
@@ -43,6 +43,16 @@ pub record Accepted (P : Program) : Type 0 where
   pub nodesOk : NodesOk (P .nodes)
   pub rangesOk : (i : ℕ) → i < nodeCount (P .nodes) → referencesOk P i ≡ true
   pub widthsFit : WidthsFit P
+
+-- ---- a program that is not accepted
+
+-- index i is the lowest below n that fails a test
+pub record IsLowestFault (ok : ℕ → Bool) (n i : ℕ) : Type 0 where
+  pub within : i < n
+  pub fails : ok i ≡ false
+  pub lowerPass : (j : ℕ) → j < i → ok j ≡ true
+
+-- ---- the tree of a program
 
 -- the statement of node i, with the statements of the nodes below it
 unfoldable pub statementAt : List ℕ → ℕ → Stmt

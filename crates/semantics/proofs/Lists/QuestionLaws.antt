@@ -1,9 +1,10 @@
 -- Laws of `firstNo`: it is 0 exactly when every question is answered yes. So an accepted program has its sizes within
 -- the limits, and each expression, node, range and width is ok.
 use mathlib.Core.Path.{_≡_, refl, sym, _∙_}
-use mathlib.Core.Bool.{Bool, true, false, cond, not, _&&_, true≢false}
+use mathlib.Core.Bool.{Bool, true, false, cond, not, _&&_, _||_, true≢false, or-true}
 use mathlib.Core.List.{List, [], _∷_, _++_}
-use Prim.Native.Nat.{_%_}
+use mathlib.Core.Logic.{_≢_}
+use Prim.Native.Nat.{ℕ, _%_}
 use lib.Dec.{eqb, leb}
 use lib.ListN.{length}
 use borrow.Author.Tests.{eqb-true, eq-eqb, leb-true, not-true}
@@ -39,6 +40,20 @@ yes-all (q ∷ qs) n h = pick (q .yes) refl h (yes-all qs (and-right (not (eqb (
     pick true e z rec = (e, rec z)
     pick false e z rec =
         absurd (true≢false (sym (eq-eqb _ 0 z) ∙ not-true _ (and-left (not (eqb (q .number) 0)) _ n)))
+
+-- a question of number k is answered no
+abbrev pub answeredNo : ℕ → List Question → Bool
+answeredNo k [] = false
+answeredNo k (q ∷ qs) = (eqb (q .number) k && not (q .yes)) || answeredNo k qs
+
+pub number-answered-no : (k : ℕ) (qs : List Question) → firstNo qs ≡ k → k ≢ 0 → answeredNo k qs ≡ true
+number-answered-no k [] h z = absurd (z (sym h))
+number-answered-no k (q ∷ qs) h z = pick (q .yes) h (λ e. number-answered-no k qs e z)
+  where
+    pick : (b : Bool) → cond b (firstNo qs) (q .number) ≡ k → (firstNo qs ≡ k → answeredNo k qs ≡ true)
+        → (eqb (q .number) k && not b) || answeredNo k qs ≡ true
+    pick true e rec = rw (rec e) (or-true (eqb (q .number) k && false))
+    pick false e rec = rw (eq-eqb (q .number) k e)
 
 -- the questions ps, and where none of them is answered no, the questions qs
 pub firstNo-append : (ps qs : List Question) → numbered ps ≡ true

@@ -1,6 +1,6 @@
 -- The order rule: for an accepted program, a state whose lists have the right lengths and that is well
--- formed, any number of cycles and any two books, the two answers of run (number, cycles worked and the three lists)
--- are equal if and only if both books first go wrong at the same cycle, or neither goes wrong.
+-- formed, any number of cycles and any two books, the two answers of run (number, item, cycles worked and the three
+-- lists) are equal if and only if both books first go wrong at the same cycle, or neither goes wrong.
 -- One cycle is `CycleOrder`, all cycles are `OrderOverCycles`; here the questions before the first cycle come on top.
 use mathlib.Core.Path.{_≡_, refl}
 use mathlib.Core.Bool.{true}

@@ -55,12 +55,15 @@ module _ (P : Program) (s : State) (es : List ℕ) where
       pick true false c d s′ h = let z : 8 ≡ q = cc in omega arith
       pick false b c d s′ h = let z : 7 ≡ q = cc in omega arith
 
-  pub refused-not-0 : (q : ℕ) → cycle P s es ≡ refused q → q ≢ 0
-  refused-not-0 q e z = pick (areActive (s .marks) es) (refused-number q e .0)
+  pub at-least-7 : (q : ℕ) → cycle P s es ≡ refused q → 7 ≤ q
+  at-least-7 q e = pick (areActive (s .marks) es) (refused-number q e .0)
     where
-      pick : (a : Bool) → cond a 8 7 ≤ q → ⊥
+      pick : (a : Bool) → cond a 8 7 ≤ q → 7 ≤ q
       pick true l = omega arith
-      pick false l = omega arith
+      pick false l = l
+
+  pub refused-not-0 : (q : ℕ) → cycle P s es ≡ refused q → q ≢ 0
+  refused-not-0 q e z = omega (arith, at-least-7 q e)
 
 -- ---- what a call answers of a run
 
