@@ -4,11 +4,12 @@ use mathlib.Core.Bool.{Bool, true, false, not, true≢false}
 use mathlib.Core.Logic.{inl, inr}
 use Prim.Native.Nat.{ℕ, _+_, _≤_, _<_}
 use native.Mathlib.Omega.{arith}
-use lib.Dec.{eqb}
-use borrow.Author.Tests.{not-true, not-false, eq-eqb, ne-eqb}
+use borrow.Author.Tests.{not-true, not-false}
 use Rattle.semantics.specs.Numbers.{below, every}
+use Rattle.semantics.specs.Questions.{lowestFault}
 use Rattle.semantics.proofs.Lists.Logic.{lt-or-le, true-or-false}
 use Rattle.semantics.proofs.Lists.NumberLaws.{every-below, all-below}
+use Rattle.semantics.proofs.Lists.FaultLaws.{lowest-found}
 use Rattle.program.specs.Search.{FirstFault}
 
 module _ (ok : ℕ → Bool) where
@@ -40,9 +41,8 @@ module _ (ok : ℕ → Bool) where
       let e : i ≡ count = omega arith in
       subst (λ (x : ℕ). every ok (below x) ≡ true) e (f .passed)
 
-  -- the search comes to its end exactly when the question is answered yes
-  pub search-answer : (count i : ℕ) → FirstFault ok count i → eqb i count ≡ every ok (below count)
-  search-answer count i f = elim (lt-or-le i count) [
-    | inl v ↦ ne-eqb i count (λ e. omega arith) ∙ sym (found count i f v)
-    | inr v ↦ let w = f .within in eq-eqb i count (omega arith) ∙ sym (not-found count i f v)
-  ]
+  -- what was found is the rules' lowest fault
+  pub found-lowest : (count i : ℕ) → FirstFault ok count i → i < count → i ≡ lowestFault ok count
+  found-lowest count i f l =
+      sym (lowest-found ok count i
+      (record { within = l; fails = f .fault l; lowerPass = every-below ok i (f .passed) }))

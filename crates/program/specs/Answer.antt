@@ -1,10 +1,9 @@
--- What check promises: the rules' number of the program in the lent lists, and an item that has that fault.
+-- What check promises: the rules' number of the program in the lent lists, and the item of that number.
 use mathlib.Core.Path.{_≡_}
-use mathlib.Core.Bool.{true}
 use mathlib.Core.List.{List}
 use Prim.Native.Nat.{ℕ}
 use Rattle.semantics.specs.Program.{Program}
-use Rattle.semantics.specs.Check.{checkNumber, isFaultItem}
+use Rattle.semantics.specs.Check.{checkNumber, faultItem}
 
 -- The program that three lists and two numbers hold.
 abbrev pub programOf : List ℕ → List ℕ → List ℕ → ℕ → ℕ → Program
@@ -13,4 +12,4 @@ programOf exprs nodes widths vars chans =
 
 pub record CheckAnswer (P : Program) (number item : ℕ) : Type 0 where
   pub rightNumber : number ≡ checkNumber P
-  pub faultItem : isFaultItem P number item ≡ true
+  pub rightItem : item ≡ faultItem P (checkNumber P)

@@ -19,7 +19,7 @@ use ranges::first_out_of_range;
 use sizes::sizes_ok;
 use tree::first_faulty_node;
 pub use values::apply_op;
-use widths::widths_ok;
+use widths::ask_widths;
 ghost use Rattle.program.specs.Answer.{programOf, CheckAnswer};
 
 // The number of a variable. It is a type of its own, as a channel's is, so that neither is taken for the other.
@@ -28,7 +28,7 @@ pub struct VarId(pub u16);
 // The number of a channel.
 pub struct ChanId(pub u16);
 
-// The number of the first question answered no, or 0, and the fault item.
+// The number of the first question answered no, or 0, and the item of that number: the first fault.
 pub struct Checked {
     pub number: u16,
     pub item: u16,
@@ -65,11 +65,5 @@ pub fn check(exprs: &[u16], nodes: &[u16], widths: &[u16], vars: u16, chans: u16
             item: name,
         };
     }
-    if !widths_ok(widths, vars) {
-        return Checked {
-            number: 11,
-            item: 0,
-        };
-    }
-    Checked { number: 0, item: 0 }
+    ask_widths(widths, vars)
 }

@@ -1,11 +1,14 @@
 // Question 11: a width for each variable, from 1 to 16.
+use super::Checked;
 use super::VarId;
 use super::limits::WIDTH_MAX;
 use super::words::width_word;
 ghost use mathlib.Core.Path.{_≡_};
+ghost use mathlib.Core.Bool.{cond};
 ghost use mathlib.Core.List.{List};
 ghost use Prim.Native.Nat.{ℕ};
 ghost use Rattle.semantics.specs.Widths.{widthAt, widthOk, widthsOk};
+ghost use Rattle.semantics.specs.Check.{faultItem};
 ghost use Rattle.program.specs.Answer.{programOf};
 ghost use Rattle.program.specs.Search.{FirstFault};
 
@@ -29,9 +32,24 @@ fn first_faulty_width(widths: &[u16], count: u16) -> u16
     v
 }
 
-pub fn widths_ok(widths: &[u16], vars: u16) -> bool
+// The answer of check where every question before is answered yes.
+pub fn ask_widths(widths: &[u16], vars: u16) -> Checked
     ensures { λ r. ⌜ ((exprs nodes : List ℕ) (chans : ℕ) →
-        r ≡ widthsOk (programOf exprs nodes (now (widths .entry)) vars chans)) ⌝ }
+        let P = programOf exprs nodes (now (widths .entry)) vars chans in
+        (r .number ≡ cond (widthsOk P) 0 11) × (r .item ≡ faultItem P (r .number))) ⌝ }
 {
-    (widths.len() == vars as usize) & (first_faulty_width(widths, vars) == vars)
+    if widths.len() != vars as usize {
+        return Checked {
+            number: 11,
+            item: 0,
+        };
+    }
+    let variable = first_faulty_width(widths, vars);
+    if variable < vars {
+        return Checked {
+            number: 11,
+            item: variable,
+        };
+    }
+    Checked { number: 0, item: 0 }
 }

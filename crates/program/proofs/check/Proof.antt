@@ -93,22 +93,14 @@ references : (c : tie.Else4)
 references c = not-found _ _ _ (names-searched (c .before)) (c .if4 .left)
 
 -- ---- question 11 is asked
-last-asked : (c : tie.After-widths-ok)
-    → let P = program (c .before .before .before .before .before .before .before .before) in
-    CheckAnswer P (cond (c .widths-ok .result) 0 11) 0
-last-asked c =
+returns-5 : tie.Need-returns-5
+returns-5 c =
     let n = c .before .before .before in
     let e = n .before .before in
     let b = e .before .before in
     let x = start (b .before) .args in
-    answer-last (program (b .before)) (sizes b) (exprs e) (nodes n) (references (c .before)) (c .widths-ok .result)
-    (c .widths-ok .ensures (x .exprs .now) (x .nodes .now) (x .chans))
-
-returns-5 : tie.Need-returns-5
-returns-5 c = rw (not-true (c .before .widths-ok .result) (c .if5 .taken)) at (last-asked (c .before))
-
-returns-6 : tie.Need-returns-6
-returns-6 c = rw (not-false (c .before .widths-ok .result) (c .if5 .left)) at (last-asked (c .before))
+    let asked = c .ask-widths .ensures (x .exprs .now) (x .nodes .now) (x .chans) in
+    answer-last (program (b .before)) (sizes b) (exprs e) (nodes n) (references (c .before)) (asked .0) (asked .1)
 
 pub check-spec : {M : Type 1} → statement M
 check-spec =
@@ -125,5 +117,4 @@ check-spec =
     (λ c κs. search needs)
     returns-4
     (λ c κs. search needs)
-    returns-5
-    returns-6)
+    returns-5)
