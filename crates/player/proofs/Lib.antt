@@ -37,4 +37,5 @@ pub mod AdvanceLaws
 pub mod CycleAnswerLaws
 pub mod StampLaws
 pub mod RunningLaws
+pub mod OneResult
 pub mod OrderOfRuns

@@ -4,7 +4,7 @@
 use mathlib.Core.Path.{_≡_, refl, sym, ap, _∙_, subst}
 use mathlib.Core.Bool.{Bool, false, cond}
 use mathlib.Core.List.{List}
-use mathlib.Core.Logic.{_≢_, inl, inr}
+use mathlib.Core.Logic.{_≢_}
 use Prim.Native.Nat.{ℕ, suc, _+_, _-_, _≤_, _<_, zero-le}
 use native.Mathlib.Nat.{add-zero, sub-zero, min-le-right}
 use native.Mathlib.Omega.{arith}
@@ -15,6 +15,7 @@ use Rattle.semantics.specs.Program.{Program}
 use Rattle.semantics.specs.State.{State, markCount, ended}
 use Rattle.semantics.specs.Cycle.Outcome.{refused, advancesTo}
 use Rattle.semantics.specs.Run.{Run, run, stopped, oneMore, nextEntries, laterEntries}
+use Rattle.semantics.specs.Calls.{answer}
 use Rattle.semantics.proofs.Run.RunLaws.{answerOf, workedBefore, none-before, Refuses, WorksTo}
 use Rattle.semantics.proofs.Run.RunLaws.{run-no-cycle, run-ended, run-refused, run-worked}
 use Rattle.semantics.proofs.Run.FirstWrong.{worked-active}
@@ -23,7 +24,7 @@ use Rattle.semantics.proofs.Order.CycleOrder.{leaves-ready}
 use Rattle.semantics.proofs.Order.OrderRule.{answer-of-run}
 use Rattle.player.specs.Cycle.{Runnable, CycleAnswer}
 use Rattle.player.specs.Run.{RunAnswer}
-use Rattle.player.proofs.RunAnswerLaws.{at-least-7, CyclesNumber, no-item, by-answer}
+use Rattle.player.proofs.RunAnswerLaws.{answer-cycles}
 
 one-more-before : (k : ℕ) (r : Run) → workedBefore k (oneMore r) ≡ workedBefore (k + 1) r
 one-more-before k r =
@@ -49,24 +50,23 @@ module _ {P : Program} {n : ℕ} {s₀ : State} {book : List ℕ} (start : Runna
       }
 
   module _ {s : State} {k read : ℕ} (p : Progress P n s₀ book s k read) where
-    stops : {q : ℕ} → CyclesNumber q → run P (n - k) s (drop read book) ≡ stopped q s (drop read book)
-        → RunAnswer P n s₀ book q 0 k s
-    stops {q} number e =
-        by-answer {a = record { number = q; worked = k; state = s }}
-        (answer-of-run P (start .accepted) s₀ (start .ready) n book ∙ ap answerOf (p .same ∙ ap (workedBefore k) e)
-        ∙ (λ i. record { number = q; worked = add-zero k i; state = s })) (no-item P q 0 number)
+    stops : {q : ℕ} → run P (n - k) s (drop read book) ≡ stopped q s (drop read book) → RunAnswer P n s₀ book q 0 k s
+    stops {q} e =
+        answer-cycles (start .accepted)
+        (answer-of-run P (start .accepted) s₀ (start .ready) n book ∙ ap (answerOf P) (p .same ∙ ap (workedBefore k) e)
+        ∙ (λ i. answer P q (add-zero k i) s))
 
     -- as many as are asked
     pub all-worked : n ≤ k → RunAnswer P n s₀ book 0 0 k s
     all-worked l =
         let e : n - k ≡ 0 = omega arith in
-        stops (inl refl) (ap (λ (x : ℕ). run P x s (drop read book)) e ∙ run-no-cycle P s (drop read book))
+        stops (ap (λ (x : ℕ). run P x s (drop read book)) e ∙ run-no-cycle P s (drop read book))
 
     module _ {m : ℕ} (counted : m ≡ markCount (s .marks)) where
       -- no mark stands
       pub no-mark : m ≡ 0 → RunAnswer P n s₀ book 0 0 k s
       no-mark z =
-          stops (inl refl) (run-ended P (n - k) s (drop read book) (eq-eqb (markCount (s .marks)) 0 (sym counted ∙ z)))
+          stops (run-ended P (n - k) s (drop read book) (eq-eqb (markCount (s .marks)) 0 (sym counted ∙ z)))
 
       module _ (l : k < n) (some : m ≢ 0) where
         a-mark : ended s ≡ false
@@ -82,8 +82,7 @@ module _ {P : Program} {n : ℕ} {s₀ : State} {book : List ℕ} (start : Runna
             let refuses : Refuses P s (drop read book) q =
             (a-mark, a .outcome ∙ ap (λ (b : Bool). cond b (advancesTo s′) (refused q)) (ne-eqb q 0 no-zero)) in
             subst (RunAnswer P n s₀ book q 0 k) (sym (a .kept no-zero))
-            (stops (inr (at-least-7 P s (nextEntries s (drop read book)) (refuses .1)))
-            (ap (λ (x : ℕ). run P x s (drop read book)) next
+            (stops (ap (λ (x : ℕ). run P x s (drop read book)) next
             ∙ run-refused P (n - (k + 1)) q s (drop read book) refuses))
 
         -- the cycle is worked

@@ -43,6 +43,11 @@ pub run-ready : (P : Program) → checkNumber P ≡ 0 → (s : State) → Ready 
     → (n : ℕ) (book : List ℕ) → Ready P (runAnswer P n s book .state)
 run-ready = RunTheorems.run-ready
 
+-- A run that is refused before its first cycle has one answer, whatever the book and the number of cycles.
+pub refused-alike : (P : Program) (s : State) → ¬ ((checkNumber P ≡ 0) × Ready P s)
+    → (n m : ℕ) (b d : List ℕ) → runAnswer P n s b ≡ runAnswer P m s d
+refused-alike = RunTheorems.refused-alike
+
 -- A book that first goes wrong at cycle k is answered with 7 and k cycles worked.
 pub wrong-book : (P : Program) → checkNumber P ≡ 0 → (s : State) → Ready P s
     → (n : ℕ) (book : List ℕ) (k : ℕ) → firstWrong P n s book ≡ some k

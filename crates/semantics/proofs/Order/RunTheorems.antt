@@ -10,17 +10,17 @@ use lib.Dec.{eqb}
 use lib.ListN.{length, take}
 use borrow.Author.Tests.{eqb-true}
 use Rattle.semantics.specs.Program.{Program, nodeCount}
-use Rattle.semantics.specs.Questions.{ask, firstNo}
+use Rattle.semantics.specs.Questions.{Question, ask, firstNo}
 use Rattle.semantics.specs.Check.{checkQuestions, checkNumber}
 use Rattle.semantics.specs.Widths.{valuesInRange}
-use Rattle.semantics.specs.State.{State, lengthsOk}
+use Rattle.semantics.specs.State.{State, lengthsOk, wellFormed}
 use Rattle.semantics.specs.Tree.{treeOf}
 use Rattle.semantics.specs.Expressions.{isTrue}
 use Rattle.semantics.specs.Run.{Run, run}
 use Rattle.semantics.specs.Calls.{Answer, answer, rootWalk, beginAnswer, runAnswer}
 use Rattle.semantics.specs.Book.{entriesAsked, firstWrong}
 use Rattle.semantics.specs.Facts.{Ready}
-use Rattle.semantics.proofs.Lists.Logic.{true-or-false}
+use Rattle.semantics.proofs.Lists.Logic.{refuted, true-or-false}
 use Rattle.semantics.proofs.Lists.QuestionLaws.{all-yes, yes-all}
 use Rattle.semantics.proofs.Tree.TreeOfList.{accepted-tree}
 use Rattle.semantics.proofs.Order.WalksOnTree.{begin-formed}
@@ -59,6 +59,26 @@ begun-ready P s h =
     let (sizes, (exprs, (nodes, (ranges, (widths, (lengths, (in-range, _))))))) = yes-all questions refl zero-number in
     let accepted = all-yes (checkQuestions P) (sizes, (exprs, (nodes, (ranges, (widths, tt))))) in
     rw zero-number (entered-ready P accepted (s .values) (fits-lengths P s lengths .values) in-range)
+
+-- ---- run, refused before its first cycle
+
+-- whatever the number of cycles and the book
+pub refused-alike : (P : Program) (s : State) → ¬ ((checkNumber P ≡ 0) × Ready P s)
+    → (n m : ℕ) (b d : List ℕ) → runAnswer P n s b ≡ runAnswer P m s d
+unfolding runAnswer checkNumber
+refused-alike P s not-ready n m b d = rw (refuted (eqb (firstNo questions) 0) no)
+  where
+    questions : List Question
+    questions = checkQuestions P ++ ask 5 (lengthsOk P s) ∷ ask 6 (wellFormed P s) ∷ []
+
+    no : eqb (firstNo questions) 0 ≡ true → ⊥
+    no e =
+        let (sizes, (exprs, (nodes, (ranges, (widths, (fit, (formed, _))))))) =
+        yes-all questions refl (eqb-true (firstNo questions) 0 e) in
+        not-ready (
+          all-yes (checkQuestions P) (sizes, (exprs, (nodes, (ranges, (widths, tt))))),
+          record { fit = fit; formed = formed },
+        )
 
 -- ---- run, on an accepted program and a state that questions 5 and 6 let by
 
