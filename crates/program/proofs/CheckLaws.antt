@@ -7,7 +7,7 @@ use Rattle.semantics.specs.Numbers.{below, every}
 use Rattle.semantics.specs.Program.{Program, exprCount, nodeCount}
 use Rattle.semantics.specs.Widths.{widthsOk}
 use Rattle.semantics.specs.Check.{sizesOk, exprOk, nodeOk, referencesOk, checkNumber, faultItem}
-use Rattle.program.specs.Search.{FirstFault}
+use Rattle.program.specs.Search.{Searched}
 use Rattle.program.specs.Answer.{CheckAnswer}
 use Rattle.program.proofs.SearchLaws.{found, found-lowest}
 
@@ -21,19 +21,19 @@ module _ (P : Program) where
 
   -- a question is answered yes when its search found nothing, which gives the facts `exprs` and `nodes`
   module _ (s : sizesOk P ≡ true) where
-    pub answer-2 : (expr : ℕ) → FirstFault (exprOk P) (exprCount (P .exprs)) expr → expr < exprCount (P .exprs)
+    pub answer-2 : (expr : ℕ) → Searched (exprOk P) (exprCount (P .exprs)) expr → expr < exprCount (P .exprs)
         → CheckAnswer P 2 expr
     unfolding checkNumber faultItem
     answer-2 expr f l = by-number (rw (s, found _ _ _ f l)) (found-lowest _ _ _ f l)
 
     module _ (exprs : every (exprOk P) (below (exprCount (P .exprs))) ≡ true) where
-      pub answer-3 : (node : ℕ) → FirstFault (nodeOk (P .nodes)) (nodeCount (P .nodes)) node
+      pub answer-3 : (node : ℕ) → Searched (nodeOk (P .nodes)) (nodeCount (P .nodes)) node
           → node < nodeCount (P .nodes) → CheckAnswer P 3 node
       unfolding checkNumber faultItem
       answer-3 node f l = by-number (rw (s, exprs, found _ _ _ f l)) (found-lowest _ _ _ f l)
 
       module _ (nodes : every (nodeOk (P .nodes)) (below (nodeCount (P .nodes))) ≡ true) where
-        pub answer-4 : (node : ℕ) → FirstFault (referencesOk P) (nodeCount (P .nodes)) node
+        pub answer-4 : (node : ℕ) → Searched (referencesOk P) (nodeCount (P .nodes)) node
             → node < nodeCount (P .nodes) → CheckAnswer P 4 node
         unfolding checkNumber faultItem
         answer-4 node f l = by-number (rw (s, exprs, nodes, found _ _ _ f l)) (found-lowest _ _ _ f l)

@@ -14,7 +14,7 @@ ghost use Prim.Native.Nat.{ℕ};
 ghost use Rattle.semantics.specs.Program.{opOf};
 ghost use Rattle.semantics.specs.Check.{exprWordsOk, exprOk};
 ghost use Rattle.program.specs.Answer.{programOf};
-ghost use Rattle.program.specs.Search.{FirstFault};
+ghost use Rattle.program.specs.Search.{Searched};
 
 // Operand expressions have lower indices than i.
 fn expr_words_ok(vars: u16, i: u16, op: u16, p: u16, q: u16) -> bool
@@ -44,7 +44,7 @@ fn expr_ok(exprs: &[u16], vars: u16, i: u16) -> bool
 // The first of the expressions below count that has a fault, or count.
 pub fn first_faulty_expr(exprs: &[u16], vars: u16, count: u16) -> u16
     ensures { λ r. ⌜ ((nodes widths : List ℕ) (chans : ℕ) →
-        FirstFault (exprOk (programOf (now (exprs .entry)) nodes widths vars chans)) count r) ⌝ }
+        Searched (exprOk (programOf (now (exprs .entry)) nodes widths vars chans)) count r) ⌝ }
 {
     let mut i: u16 = 0;
     while i < count {

@@ -17,7 +17,7 @@ ghost use Prim.Native.Nat.{ℕ};
 ghost use Rattle.semantics.specs.Program.{kindOf};
 ghost use Rattle.semantics.specs.Check.{referenceWordsOk, referencesOk};
 ghost use Rattle.program.specs.Answer.{programOf};
-ghost use Rattle.program.specs.Search.{FirstFault};
+ghost use Rattle.program.specs.Search.{Searched};
 
 fn reference_words_ok(exprs: &[u16], vars: u16, chans: u16, kind: u16, a: u16, b: u16) -> bool
     ensures { λ r. ⌜ ((nodes widths : List ℕ) →
@@ -49,7 +49,7 @@ fn references_ok(exprs: &[u16], nodes: &[u16], vars: u16, chans: u16, i: u16) ->
 // The first of the nodes below count that names what the program does not have, or count.
 pub fn first_out_of_range(exprs: &[u16], nodes: &[u16], vars: u16, chans: u16, count: u16) -> u16
     ensures { λ r. ⌜ ((widths : List ℕ) →
-        FirstFault (referencesOk (programOf (now (exprs .entry)) (now (nodes .entry)) widths vars chans)) count r) ⌝ }
+        Searched (referencesOk (programOf (now (exprs .entry)) (now (nodes .entry)) widths vars chans)) count r) ⌝ }
 {
     let mut i: u16 = 0;
     while i < count {

@@ -8,7 +8,7 @@ ghost use Prim.Native.Nat.{_≤_};
 ghost use Rattle.semantics.specs.Program.{nodeCount};
 ghost use Rattle.semantics.specs.Check.{nodeOk};
 ghost use Rattle.program.specs.Ranks.{Tables};
-ghost use Rattle.program.specs.Search.{FirstFault};
+ghost use Rattle.program.specs.Search.{Searched};
 
 // One rank for each node, and rank 0.
 const RANKS: usize = NODES_MAX + 1;
@@ -22,7 +22,7 @@ fn first_faulty_in_tables(
 ) -> u16
     requires { ⌜ count ≡ nodeCount (now nodes) ⌝ }
     requires { ⌜ Tables (now nodes) count (now parents) (now depths) (now children) ⌝ }
-    ensures { λ r. ⌜ FirstFault (nodeOk (now (nodes .entry))) count r ⌝ }
+    ensures { λ r. ⌜ Searched (nodeOk (now (nodes .entry))) count r ⌝ }
 {
     let mut i: u16 = 0;
     while i < count {
@@ -41,7 +41,7 @@ fn first_faulty_in_tables(
 // The first node that has a fault of question 3, or count.
 pub fn first_faulty_node(nodes: &[u16], count: u16) -> u16
     requires { ⌜ (count ≡ nodeCount (now nodes)) × (count ≤ 1024) ⌝ }
-    ensures { λ r. ⌜ FirstFault (nodeOk (now (nodes .entry))) count r ⌝ }
+    ensures { λ r. ⌜ Searched (nodeOk (now (nodes .entry))) count r ⌝ }
 {
     let mut parents = [0u16; RANKS];
     let mut depths = [0u16; RANKS];

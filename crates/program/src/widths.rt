@@ -10,7 +10,7 @@ ghost use Prim.Native.Nat.{ℕ};
 ghost use Rattle.semantics.specs.Widths.{widthAt, widthOk, widthsOk};
 ghost use Rattle.semantics.specs.Check.{faultItem};
 ghost use Rattle.program.specs.Answer.{programOf};
-ghost use Rattle.program.specs.Search.{FirstFault};
+ghost use Rattle.program.specs.Search.{Searched};
 
 fn width_ok(width: u16) -> bool
     ensures { λ r. ⌜ r ≡ widthOk width ⌝ }
@@ -20,7 +20,7 @@ fn width_ok(width: u16) -> bool
 
 // The first of the variables below count whose width is outside 1 to 16, or count.
 fn first_faulty_width(widths: &[u16], count: u16) -> u16
-    ensures { λ r. ⌜ FirstFault (λ (v : ℕ). widthOk (widthAt (now (widths .entry)) v)) count r ⌝ }
+    ensures { λ r. ⌜ Searched (λ (v : ℕ). widthOk (widthAt (now (widths .entry)) v)) count r ⌝ }
 {
     let mut v: u16 = 0;
     while v < count {

@@ -9,7 +9,7 @@ use Rattle.semantics.specs.Program.{Program, exprCount, nodeCount}
 use Rattle.semantics.specs.Check.{sizesOk, exprOk, nodeOk, referencesOk}
 use Rattle.semantics.proofs.Lists.QuestionLaws.{sized-limits}
 use Rattle.program.specs.Answer.{programOf, CheckAnswer}
-use Rattle.program.specs.Search.{FirstFault}
+use Rattle.program.specs.Search.{Searched}
 use Rattle.program.proofs.CheckLaws.{answer-1, answer-2, answer-3, answer-4, answer-last}
 use Rattle.program.proofs.SearchLaws.{not-found}
 use Rattle.program.proofs.check.Statement.{statement}
@@ -40,7 +40,7 @@ cast-node-count c = omega (arith, sized-limits (program (c .before)) (sizes c) .
 -- ---- the expressions are searched
 exprs-searched : (c : tie.After-first-faulty-expr)
     → let P = program (c .before .before) in
-    FirstFault (exprOk P) (exprCount (P .exprs)) (c .first-faulty-expr .result)
+    Searched (exprOk P) (exprCount (P .exprs)) (c .first-faulty-expr .result)
 exprs-searched c =
     let x = start (c .before .before) .args in c .first-faulty-expr .ensures (x .nodes .now) (x .widths .now) (x .chans)
 
@@ -74,7 +74,7 @@ nodes c = not-found _ _ _ (c .before .first-faulty-node .ensures) (c .if3 .left)
 -- ---- the names are searched
 names-searched : (c : tie.After-first-out-of-range)
     → let P = program (c .before .before .before .before .before .before) in
-    FirstFault (referencesOk P) (nodeCount (P .nodes)) (c .first-out-of-range .result)
+    Searched (referencesOk P) (nodeCount (P .nodes)) (c .first-out-of-range .result)
 names-searched c =
     let x = start (c .before .before .before .before .before .before) .args in
     c .first-out-of-range .ensures (x .widths .now)
