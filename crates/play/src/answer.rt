@@ -33,17 +33,18 @@ pub fn print_worked(worked: u16, is_ended: bool) {
 fn put_number(number: u16, item: u16, line: Line) -> Line {
     let line = line.put(b"Number ").word(number);
     match number {
-        2..=4 => line.put(b", item ").word(item),
+        2..=4 | 11 => line.put(b", item ").word(item),
         _ => line,
     }
 }
 
-// The question of a refusal, with what the item is the number of.
+// The question of a refusal, with the first place of the paper that it refuses. A paper has a width for each variable.
 fn put_refusal(number: u16, item: u16, line: Line) -> Line {
     let line = line.put(b" refused by question ").word(number);
     match number {
-        2 => line.put(b" at expression ").word(item),
-        3..=4 => line.put(b" at node ").word(item),
+        2 => line.put(b", first at expression ").word(item),
+        3..=4 => line.put(b", first at node ").word(item),
+        11 => line.put(b", first at v").word(item),
         _ => line,
     }
 }
@@ -100,7 +101,7 @@ fn print_reason_of_program(number: u16) {
         ),
         2 => say(b"  Its op is unknown, an operand is out of range, or an unused word is not 0."),
         3 => say(b"  Its kind, end, parent, depth, number of children or an unused word is wrong."),
-        _ => say(b"  A variable is not 1 to 16 bits wide."),
+        _ => say(b"  It is not 1 to 16 bits wide."),
     }
 }
 
