@@ -1,6 +1,6 @@
 -- From what the searches found to check's answer: the first question answered no gives the number, and what was found
 -- is the item.
-use mathlib.Core.Path.{_≡_, refl, sym, ap, _∙_}
+use mathlib.Core.Path.{_≡_, refl, ap, _∙_}
 use mathlib.Core.Bool.{true, false, cond}
 use Prim.Native.Nat.{ℕ, _<_}
 use Rattle.semantics.specs.Numbers.{below, every}

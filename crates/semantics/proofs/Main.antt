@@ -71,7 +71,8 @@ entries-read = RunTheorems.entries-read
 pub run-then-run : (P : Program) → checkNumber P ≡ 0 → (s : State) → Ready P s
     → (n m : ℕ) (book : List ℕ) → runAnswer P n s book .worked ≡ n
     → (let r = run P n s book in let a = runAnswer P m (r .state) (r .unread) in
-    runAnswer P (n + m) s book ≡ record { number = a .number; item = a .item; worked = n + a .worked; state = a .state })
+    runAnswer P (n + m) s book
+    ≡ record { number = a .number; item = a .item; worked = n + a .worked; state = a .state })
 run-then-run = RunTheorems.run-then-run
 
 -- Where a run of n cycles works fewer, a run of n + m cycles has the same answer.
@@ -104,9 +105,9 @@ pub old-papers : (P : Program) → P .widths ≡ replicate (P .variables) 16 →
     × ((n : ℕ) (book : List ℕ) → runAnswer P n s book ≡ plainRunAnswer P n s book)
 old-papers = OldPapers.old-papers
 
--- The first fault. With 2 check's item is the lowest faulty expression, with 3 and 4 the lowest faulty node, and with 11
--- the lowest variable whose width is bad, where there is a width for each variable. With 11 it is 0 where there is not,
--- and with every other number.
+-- The first fault. With 2 check's item is the lowest faulty expression, with 3 and 4 the lowest faulty node, and with
+-- 11, where there is a width for each variable, the lowest variable whose width is bad. It is 0 with 11 where there is
+-- not, and with every other number.
 pub first-fault : (P : Program)
     → (checkNumber P ≡ 2 → IsLowestFault (exprOk P) (exprCount (P .exprs)) (faultItem P (checkNumber P)))
     × (checkNumber P ≡ 3 → IsLowestFault (nodeOk (P .nodes)) (nodeCount (P .nodes)) (faultItem P (checkNumber P)))

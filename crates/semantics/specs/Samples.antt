@@ -215,7 +215,7 @@ counterBegun v = gives 0 0 (v ∷ []) (0 ∷ 1 ∷ []) (0 ∷ 0 ∷ [])
 abbrev pub counterTooWide : Answer
 counterTooWide = gives 6 0 (4096 ∷ []) (1 ∷ 1 ∷ []) (9 ∷ 9 ∷ [])
 
--- four variables and no channel, with values of 0: the expressions, nodes and widths are refused, by a number and an item
+-- four variables of value 0 and no channel: the expressions, nodes and widths are refused, by a number and an item
 abbrev pub refusedStores : List ℕ → List ℕ → List ℕ → ℕ → ℕ → Paper
 refusedStores exprs nodes widths q i = refused (programOf exprs nodes widths 4 0) (0 ∷ 0 ∷ 0 ∷ 0 ∷ []) q i
 

@@ -1,6 +1,6 @@
 -- `check` gives the first question answered no, with what the search for that question found.
 use mathlib.Core.Path.{_≡_, sym, _∙_}
-use mathlib.Core.Bool.{true, cond}
+use mathlib.Core.Bool.{true}
 use native.Mathlib.Omega.{arith}
 use borrow.Author.Needs.{needs}
 use borrow.Author.Tests.{not-true, not-false}
@@ -8,7 +8,7 @@ use Rattle.semantics.specs.Numbers.{below, every}
 use Rattle.semantics.specs.Program.{Program, exprCount, nodeCount}
 use Rattle.semantics.specs.Check.{sizesOk, exprOk, nodeOk, referencesOk}
 use Rattle.semantics.proofs.Lists.QuestionLaws.{sized-limits}
-use Rattle.program.specs.Answer.{programOf, CheckAnswer}
+use Rattle.program.specs.Answer.{programOf}
 use Rattle.program.specs.Search.{Searched}
 use Rattle.program.proofs.CheckLaws.{answer-1, answer-2, answer-3, answer-4, answer-last}
 use Rattle.program.proofs.SearchLaws.{not-found}

@@ -1,5 +1,5 @@
--- Laws of `lowestFault` and `faultItem`: a lowest fault is what the search of the rules finds, a question answered no has
--- one, and a number that is none of 2, 3, 4 and 11 comes with the item 0.
+-- Laws of `lowestFault` and `faultItem`: a lowest fault is what the search of the rules finds, a question answered no
+-- has one, and a number that is none of 2, 3, 4 and 11 comes with the item 0.
 use mathlib.Core.Path.{_≡_, refl, sym, ap, _∙_, subst}
 use mathlib.Core.Bool.{Bool, true, false, not, _&&_, true≢false}
 use mathlib.Core.Logic.{_≢_, inl, inr}
@@ -7,7 +7,6 @@ use mathlib.Core.Option.{some, Option·getD}
 use Prim.Native.Nat.{ℕ, zero, suc, _+_, _≤_, _<_}
 use native.Mathlib.Nat.{le-refl}
 use native.Mathlib.Omega.{arith}
-use lib.Dec.{eqb}
 use borrow.Author.Tests.{ne-eqb}
 use Rattle.semantics.specs.Numbers.{upFrom, below, every, find}
 use Rattle.semantics.specs.Questions.{lowestFault}

@@ -1,9 +1,9 @@
 -- The first fault: where check refuses a program, its item is the lowest index that has the fault of its number. Begin
 -- and run give check's item: with the numbers that only they give, the item is 0.
-use mathlib.Core.Path.{_≡_, refl, sym, ap, _∙_}
-use mathlib.Core.Bool.{Bool, true, false, cond, not, _&&_, _||_, or-false}
+use mathlib.Core.Path.{_≡_, refl, sym, _∙_}
+use mathlib.Core.Bool.{Bool, true, false, cond, not, _||_, or-false}
 use mathlib.Core.List.{List, [], _∷_, _++_}
-use mathlib.Core.Logic.{_≢_, inl, inr}
+use mathlib.Core.Logic.{_≢_}
 use Prim.Native.Nat.{ℕ}
 use native.Mathlib.Omega.{arith}
 use lib.Dec.{eqb}
@@ -18,7 +18,6 @@ use Rattle.semantics.specs.State.{State, lengthsOk, wellFormed}
 use Rattle.semantics.specs.Run.{run}
 use Rattle.semantics.specs.Calls.{Answer, answer, rootWalk, beginAnswer, runAnswer}
 use Rattle.semantics.specs.Facts.{IsLowestFault}
-use Rattle.semantics.proofs.Lists.Logic.{true-or-false}
 use Rattle.semantics.proofs.Lists.QuestionLaws.{answeredNo, number-answered-no, firstNo-append}
 use Rattle.semantics.proofs.Lists.FaultLaws.{lowest-fault, no-item}
 use Rattle.semantics.proofs.Run.RunLaws.{refused-number, at-least-7, Refuses, answerOf}
@@ -99,7 +98,8 @@ module _ (P : Program) where
 
       pick : (b : Bool) → (let c = firstNo (checkQuestions P) in let q = cond b (firstNo later) c in eqb c 0 ≡ b
           → cond (eqb q 0) done (answer P q 0 s) .item ≡ faultItem P c)
-      pick true z = rw (eqb-true (firstNo (checkQuestions P)) 0 z) (last (eqb (firstNo later) 0) ∙ sym (firstNo-item [] tt))
+      pick true z =
+          rw (eqb-true (firstNo (checkQuestions P)) 0 z) (last (eqb (firstNo later) 0) ∙ sym (firstNo-item [] tt))
       pick false z = rw z
 
   pub item-of-check : (s : State) (n : ℕ) (book : List ℕ)

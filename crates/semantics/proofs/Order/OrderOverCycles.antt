@@ -58,7 +58,8 @@ module _ (P : Program) (Ready : State → Type 0)
   -- every book that goes wrong where b does is answered as b is
   abbrev Same : ℕ → State → List ℕ → Type 0
   Same n s b =
-      (d : List ℕ) → Ready s → firstWrong P n s b ≡ firstWrong P n s d → answerOf P (run P n s b) ≡ answerOf P (run P n s d)
+      (d : List ℕ) → Ready s → firstWrong P n s b ≡ firstWrong P n s d
+      → answerOf P (run P n s b) ≡ answerOf P (run P n s d)
 
   same-answer : (n : ℕ) (s : State) (b : List ℕ) → Same n s b
   same-answer = run-induction P Same

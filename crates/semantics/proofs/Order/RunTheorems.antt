@@ -116,7 +116,8 @@ module _ (P : Program) (accepted : checkNumber P ≡ 0) where
     -- with the rest of the book
     pub run-then-run : (n m : ℕ) (book : List ℕ) → runAnswer P n s book .worked ≡ n
         → (let r = run P n s book in let a = runAnswer P m (r .state) (r .unread) in
-        runAnswer P (n + m) s book ≡ record { number = a .number; item = a .item; worked = n + a .worked; state = a .state })
+        runAnswer P (n + m) s book
+        ≡ record { number = a .number; item = a .item; worked = n + a .worked; state = a .state })
     run-then-run n m book w =
         let r : Run = run P n s book in
         let w′ : r .worked ≡ n = sym (ap (λ (a : Answer). a .worked) (answer-of-run P accepted s ready n book)) ∙ w in

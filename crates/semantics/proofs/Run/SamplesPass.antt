@@ -20,9 +20,10 @@ use Rattle.semantics.specs.Calls.{rootWalk, beginAnswer, runAnswer}
 use Rattle.semantics.specs.Samples.{samples, allPass}
 
 pub samples-pass : allPass samples ≡ true
-unfolding samples upFrom every any filter find distinct lowestFault opOf kindOf apply valueOf firstValues parentBelow ancestorsBelow
-    sizesOk exprWordsOk kindOk endWithin endOk parentOk childrenOk unusedOk nodeOk referenceWordsOk widthOk widthsOk
-    checkNumber faultItem startBelow startFrom forest statements treeOf lengthsOk marksAreBits leavesMarked pairsMeetInPar
-    holdsMark liveChildren countsRight controlFormed valuesInRange wellFormed enter leaveChild leaveTo waits
-    channelsFree targetsApart store areActive newValues visit walked cycle run rootWalk beginAnswer runAnswer
+unfolding samples upFrom every any filter find distinct lowestFault opOf kindOf apply valueOf firstValues parentBelow
+    ancestorsBelow sizesOk exprWordsOk kindOk endWithin endOk parentOk childrenOk unusedOk nodeOk referenceWordsOk
+    widthOk widthsOk checkNumber faultItem startBelow startFrom forest statements treeOf lengthsOk marksAreBits
+    leavesMarked pairsMeetInPar holdsMark liveChildren countsRight controlFormed valuesInRange wellFormed enter
+    leaveChild leaveTo waits channelsFree targetsApart store areActive newValues visit walked cycle run rootWalk
+    beginAnswer runAnswer
 samples-pass = refl

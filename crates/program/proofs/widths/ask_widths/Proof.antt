@@ -1,5 +1,5 @@
 -- `ask_widths` is question 11: the list is as long as it should be, and the search finds no width out of range.
-use mathlib.Core.Path.{_≡_, refl, sym}
+use mathlib.Core.Path.{_≡_, refl}
 use mathlib.Core.Bool.{true}
 use lib.Dec.{eqb}
 use lib.ListN.{length}
