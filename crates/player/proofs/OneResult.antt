@@ -1,6 +1,6 @@
--- An end theorem of this crate: a call is a function of what it is lent. Take any two results that keep a call's promise
--- for the same program, state, number of cycles and book: they are equal. It is said once of check, begin and run, and
--- once of what they hand to C, where number, item and cycles worked are in one word.
+-- An end theorem of this crate: a call is a function of what it is lent. Take any two results that keep a call's
+-- promise for the same program, state, number of cycles and book: they are equal. It is said once of check, begin and
+-- run, and once of what they hand to C, where number, item and cycles worked are in one word.
 use mathlib.Core.Path.{_≡_, sym, _∙_}
 use mathlib.Core.List.{List}
 use Prim.Native.Nat.{ℕ, _+_, _*_}
@@ -92,7 +92,8 @@ module _ (P : Program) (s : State) (cycles : ℕ) (book : List ℕ) where
     determined (λ r. rules-answer),
   )
 
-  pub one-word : OneResult (CheckGivesWord P) × OneResult (BeginGivesWord P s) × OneResult (RunGivesWord P cycles s book)
+  pub one-word : OneResult (CheckGivesWord P) × OneResult (BeginGivesWord P s)
+      × OneResult (RunGivesWord P cycles s book)
   one-word = (
     determined (λ word g. word-of-parts word (g .rightNumber) (g .rightItem)),
     determined (λ r g i. (

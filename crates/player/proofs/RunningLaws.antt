@@ -1,7 +1,7 @@
 -- The cycles of a run in code: what is known before each cycle, and from it the rules' answer at each way out of the
 -- loop. Before each cycle the rules' run from the start is the run of the cycles left, from the lists as they are, by
 -- the entries not read yet, with the cycles worked so far counted in.
-use mathlib.Core.Path.{_≡_, refl, sym, ap, _∙_, subst}
+use mathlib.Core.Path.{_≡_, sym, ap, _∙_, subst}
 use mathlib.Core.Bool.{Bool, false, cond}
 use mathlib.Core.List.{List}
 use mathlib.Core.Logic.{_≢_}
