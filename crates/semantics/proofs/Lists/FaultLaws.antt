@@ -1,19 +1,22 @@
 -- Laws of `lowestFault` and `faultItem`: a lowest fault is what the search of the rules finds, a question answered no
--- has one, and a number that is none of 2, 3, 4 and 11 comes with the item 0.
+-- has one, and each number its item.
 use mathlib.Core.Path.{_≡_, refl, sym, ap, _∙_, subst}
-use mathlib.Core.Bool.{Bool, true, false, not, _&&_, true≢false}
+use mathlib.Core.Bool.{Bool, true, false, not, _&&_, _||_, true≢false}
 use mathlib.Core.Logic.{_≢_, inl, inr}
 use mathlib.Core.Option.{some, Option·getD}
 use Prim.Native.Nat.{ℕ, zero, suc, _+_, _≤_, _<_}
 use native.Mathlib.Nat.{le-refl}
 use native.Mathlib.Omega.{arith}
-use borrow.Author.Tests.{ne-eqb}
+use lib.Dec.{eqb}
+use lib.ListN.{length}
+use borrow.Author.Tests.{eq-eqb, ne-eqb}
 use Rattle.semantics.specs.Numbers.{upFrom, below, every, find}
 use Rattle.semantics.specs.Questions.{lowestFault}
-use Rattle.semantics.specs.Program.{Program}
-use Rattle.semantics.specs.Check.{faultItem}
+use Rattle.semantics.specs.Program.{Program, exprCount, nodeCount}
+use Rattle.semantics.specs.Widths.{widthAt, widthOk}
+use Rattle.semantics.specs.Check.{exprOk, nodeOk, referencesOk, faultItem}
 use Rattle.semantics.specs.Facts.{IsLowestFault}
-use Rattle.semantics.proofs.Lists.Logic.{lt-or-le}
+use Rattle.semantics.proofs.Lists.Logic.{or-left, or-right, lt-or-le}
 
 -- ---- the search of the rules
 
@@ -75,6 +78,40 @@ module _ (ok : ℕ → Bool) where
 
 -- ---- the item of a number
 
-pub no-item : (P : Program) (q : ℕ) → q ≢ 2 → q ≢ 3 → q ≢ 4 → q ≢ 11 → faultItem P q ≡ 0
-unfolding faultItem
-no-item P q a b c d = rw (ne-eqb q 2 a, ne-eqb q 3 b, ne-eqb q 4 c, ne-eqb q 11 d)
+-- the numbers that come with an item
+abbrev pub hasItem : ℕ → Bool
+hasItem q = eqb q 2 || eqb q 3 || eqb q 4 || eqb q 11
+
+module _ (P : Program) where
+  pub item-2 : faultItem P 2 ≡ lowestFault (exprOk P) (exprCount (P .exprs))
+  unfolding faultItem
+  item-2 = refl
+
+  pub item-3 : faultItem P 3 ≡ lowestFault (nodeOk (P .nodes)) (nodeCount (P .nodes))
+  unfolding faultItem
+  item-3 = refl
+
+  pub item-4 : faultItem P 4 ≡ lowestFault (referencesOk P) (nodeCount (P .nodes))
+  unfolding faultItem
+  item-4 = refl
+
+  pub item-11 : length (P .widths) ≡ P .variables
+      → faultItem P 11 ≡ lowestFault (λ v. widthOk (widthAt (P .widths) v)) (P .variables)
+  unfolding faultItem
+  item-11 e = rw (eq-eqb _ _ e)
+
+  pub item-11-length : length (P .widths) ≢ P .variables → faultItem P 11 ≡ 0
+  unfolding faultItem
+  item-11-length e = rw (ne-eqb _ _ e)
+
+  pub no-item : (q : ℕ) → hasItem q ≡ false → faultItem P q ≡ 0
+  unfolding faultItem
+  no-item q h =
+      let to-4 = or-left (eqb q 2 || eqb q 3 || eqb q 4) _ h in
+      let to-3 = or-left (eqb q 2 || eqb q 3) _ to-4 in
+      rw (
+        or-left (eqb q 2) _ to-3,
+        or-right (eqb q 2) _ to-3,
+        or-right (eqb q 2 || eqb q 3) _ to-4,
+        or-right (eqb q 2 || eqb q 3 || eqb q 4) _ h,
+      )
