@@ -68,5 +68,5 @@ module _ {P : Program} {n : ℕ} {s : State} {book : List ℕ} where
     -- the cycles of an accepted program come with no item
     pub answer-cycles : {q k : ℕ} {s′ : State} → runAnswer P n s book ≡ answer P q k s′ → RunAnswer P n s book q 0 k s′
     answer-cycles right =
-        by-answer right
-        (sym (ap (λ (x : Answer). x .item) right) ∙ item-of-check P s n book .1 ∙ ap (faultItem P) ok ∙ no-item P 0 refl)
+        let none = item-of-check P s n book .1 ∙ ap (faultItem P) ok ∙ no-item P 0 refl in
+        by-answer right (sym (ap (λ (x : Answer). x .item) right) ∙ none)

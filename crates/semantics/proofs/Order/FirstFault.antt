@@ -20,7 +20,8 @@ use Rattle.semantics.specs.Calls.{Answer, answer, rootWalk, beginAnswer,
 use Rattle.semantics.specs.Facts.{IsLowestFault}
 use Rattle.semantics.proofs.Lists.Logic.{and-left, and-right}
 use Rattle.semantics.proofs.Lists.QuestionLaws.{answeredNo, number-answered-no, firstNo-append}
-use Rattle.semantics.proofs.Lists.FaultLaws.{lowest-fault, hasItem, item-2, item-3, item-4, item-11, item-11-length, no-item}
+use Rattle.semantics.proofs.Lists.FaultLaws.{lowest-fault, hasItem, no-item}
+use Rattle.semantics.proofs.Lists.FaultLaws.{item-2, item-3, item-4, item-11, item-11-length}
 use Rattle.semantics.proofs.Run.RunLaws.{refused-number, at-least-7, Refuses, answerOf}
 use Rattle.semantics.proofs.Run.RunLaws.{run-no-cycle, run-ended, run-refused, run-worked, run-induction}
 
