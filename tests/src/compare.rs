@@ -1,29 +1,16 @@
-//! One case, asked of the player and of the reference. Each function gives the number met; `run`
-//! also gives the cycles worked, and `run_to` the state that is left besides.
+//! One case, asked of the player and of the reference, which must agree in all that the call
+//! answers and writes. Each function gives the number met; `run` also gives the cycles worked, and
+//! `run_to` the state that is left besides.
 
-use crate::player::{self, Answer};
+use crate::player;
 use crate::program::Program;
 use crate::program::State;
 use crate::reference;
 
 pub fn check(program: &Program) -> u16 {
     let expected = reference::check(program);
-    let got = player::check(program);
-    assert_eq!(got.number, expected, "check of {program:?}");
-    hold_item(program, got);
-    expected
-}
-
-/// Which faulty expression or node is named is free, that it is faulty is not.
-fn hold_item(program: &Program, answer: Answer) {
-    let item = answer.item as usize;
-    let right = match answer.number {
-        2 => item < program.expr_count() && reference::expression_fault(program, item),
-        3 => item < program.node_count() && reference::node_fault(program, item),
-        4 => item < program.node_count() && reference::name_fault(program, item),
-        _ => item == 0,
-    };
-    assert!(right, "{answer:?} for {program:?}");
+    assert_eq!(player::check(program), expected, "check of {program:?}");
+    expected.number
 }
 
 /// Elements before and after each list that is written, to be found unchanged.
@@ -61,16 +48,15 @@ impl<T: Copy + PartialEq> Lent<T> {
 }
 
 pub fn begin(program: &Program, values: &[u16], marks: &[u8], counts: &[u16]) -> u16 {
-    let (number, marks_after, counts_after) = reference::begin(program, values, marks, counts);
+    let (answer, marks_after, counts_after) = reference::begin(program, values, marks, counts);
     let mut lent_marks = Lent::new(marks, 0xa5);
     let mut lent_counts = Lent::new(counts, 0xa5a5);
     let got = player::begin(program, values, lent_marks.list(), lent_counts.list());
     let case = || format!("begin of {program:?} with {values:?}, {marks:?}, {counts:?}");
-    assert_eq!(got.number, number, "number, {}", case());
-    hold_item(program, got);
+    assert_eq!(got, answer, "answer, {}", case());
     assert_eq!(lent_marks.given_back(), marks_after, "marks, {}", case());
     assert_eq!(lent_counts.given_back(), counts_after, "counts, {}", case());
-    number
+    answer.number
 }
 
 pub fn run(program: &Program, state: &State, schedule: &[u16], cycles: u16) -> (u16, u16) {
@@ -84,7 +70,7 @@ pub fn run_to(
     schedule: &[u16],
     cycles: u16,
 ) -> (u16, u16, State) {
-    let (number, worked, after) = reference::run(program, state, schedule, cycles);
+    let (answer, worked, after) = reference::run(program, state, schedule, cycles);
     let mut values = Lent::new(&state.values, 0xa5a5);
     let mut marks = Lent::new(&state.marks, 0xa5);
     let mut counts = Lent::new(&state.counts, 0xa5a5);
@@ -97,11 +83,10 @@ pub fn run_to(
         cycles,
     );
     let case = || format!("run of {program:?} from {state:?} with {schedule:?}, {cycles} cycles");
-    assert_eq!(got.number, number, "number, {}", case());
-    hold_item(program, got);
+    assert_eq!(got, answer, "answer, {}", case());
     assert_eq!(got_worked, worked, "worked, {}", case());
     assert_eq!(values.given_back(), after.values, "values, {}", case());
     assert_eq!(marks.given_back(), after.marks, "marks, {}", case());
     assert_eq!(counts.given_back(), after.counts, "counts, {}", case());
-    (number, worked, after)
+    (answer.number, worked, after)
 }

@@ -1,6 +1,7 @@
 //! A second, plain implementation of the rules, written from the rules document alone, and what is
 //! needed to set the player against it.
 
+pub mod answer;
 pub mod compare;
 pub mod documents;
 pub mod expression;

@@ -25,12 +25,13 @@ mod well_formed;
 
 pub use schedule::ascending_schedule;
 
+use crate::answer::Answer;
 use crate::program::{Program, State};
 use crate::reference;
 use machine::Machine;
 
-/// The number and the cycles worked; the state is written in place.
-pub fn run(program: &Program, state: &mut State, schedule: &[u16], cycles: u16) -> (u16, u16) {
+/// The answer and the cycles worked; the state is written in place.
+pub fn run(program: &Program, state: &mut State, schedule: &[u16], cycles: u16) -> (Answer, u16) {
     run_on(program, state, schedule, cycles, false)
 }
 
@@ -40,7 +41,7 @@ pub fn run_compiled(
     state: &mut State,
     schedule: &[u16],
     cycles: u16,
-) -> (u16, u16) {
+) -> (Answer, u16) {
     run_on(program, state, schedule, cycles, true)
 }
 
@@ -50,14 +51,15 @@ fn run_on(
     schedule: &[u16],
     cycles: u16,
     compiled: bool,
-) -> (u16, u16) {
+) -> (Answer, u16) {
     if !takes(program, state) {
-        // Which of the questions before the first cycle is broken need not be found quickly.
-        let (number, worked, _) = reference::run(program, state, schedule, cycles);
-        return (number, worked);
+        // Which of the questions before the first cycle is broken, and by what, need not be found
+        // quickly.
+        let (answer, worked, _) = reference::run(program, state, schedule, cycles);
+        return (answer, worked);
     }
     if cycles == 0 {
-        return (0, 0);
+        return (Answer::without_item(0), 0);
     }
     let State {
         values,
@@ -65,9 +67,9 @@ fn run_on(
         counts,
     } = state;
     let mut machine = Machine::load(program, values, marks, counts, compiled);
-    let answer = machine.run(schedule, cycles);
+    let (number, worked) = machine.run(schedule, cycles);
     values.copy_from_slice(machine.values());
-    answer
+    (Answer::without_item(number), worked)
 }
 
 /// Whether all the questions that come before the first cycle are answered with yes.

@@ -28,6 +28,7 @@ pub use widths::{
     wide_formula_of_narrow_variable,
 };
 
+use crate::answer::Answer;
 use crate::program::{Program, State};
 
 /// A program with starting values, and what the calls give for it.
@@ -50,20 +51,29 @@ pub struct Run {
     pub after: State,
 }
 
-/// A program and a state that are refused, each time with item 0 and with nothing written.
+/// A program and a state that are refused, with nothing written.
 pub struct Refusal {
     pub name: &'static str,
     pub program: Program,
     pub state: State,
     /// What check, begin and run give.
     pub numbers: [u16; 3],
+    /// The same in all three.
+    pub item: u16,
+}
+
+impl Refusal {
+    pub fn answers(&self) -> [Answer; 3] {
+        let item = self.item;
+        self.numbers.map(|number| Answer { number, item })
+    }
 }
 
 /// A program for check alone.
 pub struct Limit {
     pub name: &'static str,
     pub program: Program,
-    pub number: u16,
+    pub answer: Answer,
 }
 
 pub fn all() -> Vec<Paper> {

@@ -1,5 +1,6 @@
 //! The player's C interface. A list is passed as a pointer and its length in elements.
 
+use crate::answer::Answer;
 use crate::program::Program;
 use crate::program::State;
 
@@ -51,12 +52,6 @@ extern "C" {
         book_len: usize,
         cycles: u16,
     ) -> u64;
-}
-
-#[derive(Clone, Copy, Debug, PartialEq, Eq)]
-pub struct Answer {
-    pub number: u16,
-    pub item: u16,
 }
 
 fn answer(word: u32) -> Answer {
@@ -154,4 +149,16 @@ pub fn run_slices(
         "the answer has words for number, item and count only"
     );
     (answer(word as u32), (word >> 32) as u16)
+}
+
+/// What check, begin and run answer where nothing is to be written. The book is wrong too: what is
+/// refused before the first cycle comes before it.
+pub fn all_three(program: &Program, state: &State) -> [Answer; 3] {
+    let checked = check(program);
+    let mut lent = state.clone();
+    let begun = begin(program, &state.values, &mut lent.marks, &mut lent.counts);
+    assert_eq!(lent, *state, "begin wrote");
+    let (ran, worked) = run(program, &mut lent, &[], 5);
+    assert_eq!((worked, &lent), (0, state), "run wrote");
+    [checked, begun, ran]
 }

@@ -1,5 +1,5 @@
-//! The rules, followed word by word as the rules document and change request No. 1 (widths) have
-//! them, without regard to speed.
+//! The rules, followed word by word as the rules document and change requests No. 1 (widths) and
+//! No. 2 (the first fault) have them, without regard to speed.
 
 mod begin;
 mod check;
@@ -11,7 +11,7 @@ mod well_formed;
 mod widths;
 
 pub use begin::{begin, begun};
-pub use check::{check, expression_fault, name_fault, node_fault};
+pub use check::{check, faults};
 pub use evaluate::evaluate;
 pub use run::run;
 pub use tree::Tree;

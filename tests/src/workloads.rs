@@ -14,6 +14,7 @@ pub use paper::exam_paper;
 pub use refused::refused_at_the_end;
 pub use small::{choices, nesting, nesting_on_a_variable, swap_loop};
 
+use crate::answer::Answer;
 use crate::expression::Expressions;
 use crate::program::{Program, State};
 use crate::reference;
@@ -26,8 +27,8 @@ pub struct Workload {
     pub start: State,
     /// How many cycles one call asks for.
     pub cycles: u16,
-    /// The number and the cycles worked that a call gives.
-    pub answer: (u16, u16),
+    /// The answer and the cycles worked that a call gives.
+    pub answer: (Answer, u16),
 }
 
 pub fn all() -> Vec<Workload> {
@@ -59,7 +60,7 @@ fn workload(name: &'static str, cycles: u16, program: Program) -> Workload {
         program,
         start,
         cycles,
-        answer: (0, cycles),
+        answer: (Answer::without_item(0), cycles),
     }
 }
 

@@ -1,6 +1,7 @@
 //! That the cycles of the optimised run allocate nothing: a long run asks for memory as often as a
 //! run of one cycle.
 
+use pahmozil_tests::answer::Answer;
 use pahmozil_tests::optimised;
 use pahmozil_tests::workloads::{self, Workload};
 use std::alloc::{GlobalAlloc, Layout, System};
@@ -34,7 +35,8 @@ fn requests(workload: &Workload, schedule: &[u16], cycles: u16) -> usize {
     let before = TIMES.get();
     let answer = optimised::run(&workload.program, &mut state, schedule, cycles);
     let requests = TIMES.get() - before;
-    assert_eq!(answer, (0, cycles), "{}", workload.name);
+    let expected = (Answer::without_item(0), cycles);
+    assert_eq!(answer, expected, "{}", workload.name);
     requests
 }
 

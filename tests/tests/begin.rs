@@ -1,5 +1,6 @@
 //! `player_begin` against the reference.
 
+use pahmozil_tests::answer::Answer;
 use pahmozil_tests::compare;
 use pahmozil_tests::generate;
 use pahmozil_tests::papers::{self, Paper};
@@ -88,8 +89,8 @@ fn hold(paper: &Paper, old_mark: u8, old_count: u16) {
     let old = (vec![old_mark; n], vec![old_count; n]);
     let (mut marks, mut counts) = old.clone();
     let answer = player::begin(&paper.program, &paper.values, &mut marks, &mut counts);
-    let expected = (paper.begin, 0);
-    assert_eq!((answer.number, answer.item), expected, "{}", paper.name);
+    let expected = Answer::without_item(paper.begin);
+    assert_eq!(answer, expected, "{}", paper.name);
     if paper.begin == 0 {
         assert_eq!(marks, paper.start.marks, "{}", paper.name);
         assert_eq!(counts, paper.start.counts, "{}", paper.name);

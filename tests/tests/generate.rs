@@ -19,7 +19,7 @@ fn programs(seed: u64, count: usize) -> Vec<Program> {
 #[test]
 fn all_are_accepted() {
     for program in programs(501, 20_000) {
-        assert_eq!(reference::check(&program), 0, "{program:?}");
+        assert_eq!(reference::check(&program).number, 0, "{program:?}");
     }
 }
 
@@ -78,8 +78,8 @@ fn first_cycles(random: &mut Random, program: &Program) -> Vec<(State, State)> {
         return list;
     };
     for _ in 0..5 {
-        let (number, _, after) = reference::run(program, &before, &before.entries(), 1);
-        if number != 0 {
+        let (answer, _, after) = reference::run(program, &before, &before.entries(), 1);
+        if answer.number != 0 {
             break;
         }
         list.push((before, after.clone()));

@@ -1,12 +1,13 @@
 //! The order rule: the order of the entries within each cycle changes nothing. It is tried out
 //! here with every order, on the reference and on the player.
 
+use pahmozil_tests::answer::Answer;
 use pahmozil_tests::generate;
 use pahmozil_tests::program::{Program, State};
 use pahmozil_tests::random::Random;
 use pahmozil_tests::reference;
 
-type Outcome = (u16, u16, State);
+type Outcome = (Answer, u16, State);
 type Play = fn(&Program, &State, &[u16], u16) -> Outcome;
 
 /// More active statements have more orders than can all be tried.
@@ -16,7 +17,7 @@ const MOST_WHOLES: usize = 150;
 fn play_player(program: &Program, state: &State, schedule: &[u16], cycles: u16) -> Outcome {
     let mut after = state.clone();
     let (answer, worked) = pahmozil_tests::player::run(program, &mut after, schedule, cycles);
-    (answer.number, worked, after)
+    (answer, worked, after)
 }
 
 fn orders(entries: &[u16]) -> Vec<Vec<u16>> {
@@ -72,8 +73,8 @@ fn every_order_of_each_cycle(play: Play, seed: u64) {
                 assert_eq!(other, outcome, "{program:?} from {state:?}, {order:?}");
             }
             tried[entries.len()] += 1;
-            numbers[outcome.0 as usize] += 1;
-            if outcome.0 != 0 {
+            numbers[outcome.0.number as usize] += 1;
+            if outcome.0.number != 0 {
                 break;
             }
             state = outcome.2;
@@ -94,7 +95,7 @@ fn every_whole_schedule(play: Play, seed: u64) {
         let cycles = random.between(1, 5);
         let right = generate::right_schedule(random, &program, &state, cycles);
         let outcome = play(&program, &state, &right.concat(), cycles as u16);
-        assert_ne!(outcome.0, 7, "{program:?} from {state:?}, {right:?}");
+        assert_ne!(outcome.0.number, 7, "{program:?} from {state:?}, {right:?}");
         if right.iter().any(|entries| entries.len() > MOST_ACTIVE) {
             continue;
         }
@@ -169,7 +170,7 @@ fn wrong_schedules(play: Play, seed: u64) {
             outcome,
             "{program:?} from {state:?}"
         );
-        wrong += (outcome.0 == 7) as usize;
+        wrong += (outcome.0.number == 7) as usize;
     }
     println!("wrong schedules: {wrong}");
     assert!(wrong >= 5_000);

@@ -1,5 +1,6 @@
 //! The reference against the sample papers.
 
+use pahmozil_tests::answer::Answer;
 use pahmozil_tests::papers::{self, Limit, Paper, Refusal};
 use pahmozil_tests::reference;
 
@@ -8,9 +9,10 @@ fn hold(paper: Paper) {
     let n = program.node_count();
     // Begin must not read these.
     let (old_marks, old_counts) = (vec![1; n], vec![77; n]);
-    let (number, marks, counts) = reference::begin(program, &paper.values, &old_marks, &old_counts);
-    assert_eq!(number, paper.begin, "{}: begin", paper.name);
-    if number != 0 {
+    let (answer, marks, counts) = reference::begin(program, &paper.values, &old_marks, &old_counts);
+    let expected = Answer::without_item(paper.begin);
+    assert_eq!(answer, expected, "{}: begin", paper.name);
+    if paper.begin != 0 {
         assert_eq!(
             (marks, counts),
             (old_marks, old_counts),
@@ -30,9 +32,10 @@ fn hold(paper: Paper) {
         paper.name
     );
     for run in &paper.runs {
-        let (number, worked, after) =
+        let (answer, worked, after) =
             reference::run(program, &paper.start, &run.schedule, run.cycles);
-        assert_eq!(number, run.number, "{}: number", paper.name);
+        let expected = Answer::without_item(run.number);
+        assert_eq!(answer, expected, "{}: answer", paper.name);
         assert_eq!(worked, run.worked, "{}: worked", paper.name);
         assert_eq!(after, run.after, "{}: state", paper.name);
     }
@@ -43,15 +46,12 @@ fn hold_refusal(refusal: Refusal) {
         name,
         program,
         state,
-        numbers,
+        ..
     } = &refusal;
     let begun = reference::begin(program, &state.values, &state.marks, &state.counts);
-    let (number, worked, after) = reference::run(program, state, &[], 5);
-    assert_eq!(
-        [reference::check(program), begun.0, number],
-        *numbers,
-        "{name}"
-    );
+    let (ran, worked, after) = reference::run(program, state, &[], 5);
+    let answers = [reference::check(program), begun.0, ran];
+    assert_eq!(answers, refusal.answers(), "{name}");
     assert_eq!(
         (&begun.1, &begun.2),
         (&state.marks, &state.counts),
@@ -63,7 +63,7 @@ fn hold_refusal(refusal: Refusal) {
 fn hold_limit(limit: Limit) {
     assert_eq!(
         reference::check(&limit.program),
-        limit.number,
+        limit.answer,
         "{}",
         limit.name
     );

@@ -1,39 +1,14 @@
-//! Widths over the C interface: the refusals that were worked by hand, and every width with every
-//! value.
+//! Widths over the C interface: every word as a width, and every width with every value.
 
+use pahmozil_tests::answer::Answer;
 use pahmozil_tests::expression::Expressions;
-use pahmozil_tests::papers::{self, Refusal};
-use pahmozil_tests::player::{self, Answer};
+use pahmozil_tests::papers;
+use pahmozil_tests::player;
 use pahmozil_tests::program::{Program, State};
 use pahmozil_tests::statement::Statement::{Asg, In, Out, Par};
 
 fn parts(answer: Answer) -> (u16, u16) {
     (answer.number, answer.item)
-}
-
-#[test]
-fn refusals() {
-    papers::refusals().iter().for_each(hold);
-}
-
-/// The book that run is lent is wrong too: what is refused before the first cycle comes first.
-fn hold(refusal: &Refusal) {
-    let Refusal {
-        name,
-        program,
-        state,
-        numbers,
-    } = refusal;
-    let expected = numbers.map(|number| (number, 0));
-    let checked = player::check(program);
-    let mut begun_state = state.clone();
-    let State { marks, counts, .. } = &mut begun_state;
-    let begun = player::begin(program, &state.values, marks, counts);
-    let mut ran_state = state.clone();
-    let (ran, worked) = player::run(program, &mut ran_state, &[], 5);
-    assert_eq!([checked, begun, ran].map(parts), expected, "{name}");
-    assert_eq!(worked, 0, "{name}");
-    assert_eq!([&begun_state, &ran_state], [state; 2], "{name}");
 }
 
 #[test]
@@ -59,12 +34,15 @@ fn two_stores(width: u16) -> (Program, State) {
     (program, state)
 }
 
+/// Of v1 and of v2.
 #[test]
 fn every_word_as_a_width() {
+    let (program, _) = two_stores(16);
     for width in 0..=65535 {
-        let (program, _) = two_stores(width);
-        let number = if (1..=16).contains(&width) { 0 } else { 11 };
-        assert_eq!(parts(player::check(&program)), (number, 0), "width {width}");
+        let program = program.clone().with_widths(&[16, width, width]);
+        let right = (1..=16).contains(&width);
+        let expected = if right { (0, 0) } else { (11, 1) };
+        assert_eq!(parts(player::check(&program)), expected, "width {width}");
     }
 }
 
@@ -72,7 +50,9 @@ fn every_word_as_a_width() {
 #[test]
 fn far_too_many_widths() {
     let (program, _) = two_stores(16);
-    let program = program.with_widths(&[16; 65_536 + 3]);
+    let mut program = program.with_widths(&[16; 65_536 + 3]);
+    assert_eq!(parts(player::check(&program)), (11, 0));
+    program.widths[1] = 0;
     assert_eq!(parts(player::check(&program)), (11, 0));
 }
 

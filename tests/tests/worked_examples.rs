@@ -5,6 +5,7 @@
 //! In both a variable may start undefined; here it starts as some number that the example does not
 //! state.
 
+use pahmozil_tests::compare;
 use pahmozil_tests::expression::Expressions;
 use pahmozil_tests::program::{Program, State};
 use pahmozil_tests::reference;
@@ -20,11 +21,7 @@ fn begin(program: &Program, values: &[u16]) -> State {
 /// One cycle with its entries ascending.
 fn cycle(program: &Program, state: &State) -> (u16, State) {
     let entries = state.entries();
-    let (number, _, after) = reference::run(program, state, &entries, 1);
-    assert_eq!(
-        pahmozil_tests::compare::run(program, state, &entries, 1).0,
-        number
-    );
+    let (number, _, after) = compare::run_to(program, state, &entries, 1);
     (number, after)
 }
 

@@ -14,8 +14,8 @@ fn states(workload: &Workload, cycles: usize) -> Vec<State> {
     for _ in 0..cycles {
         let state = list.last().expect("the start stands in it");
         let entries = state.entries();
-        let (number, worked, after) = reference::run(&workload.program, state, &entries, 1);
-        assert_eq!((number, worked), (0, 1), "{}", workload.name);
+        let (answer, worked, after) = reference::run(&workload.program, state, &entries, 1);
+        assert_eq!((answer.number, worked), (0, 1), "{}", workload.name);
         list.push(after);
     }
     list
@@ -100,8 +100,8 @@ fn looping_assignments_of_12_bits() {
     always_active(&workload, 250);
     // After so many cycles, those that started at 96 or more have come past 4,095.
     let schedule = optimised::ascending_schedule(program, start, 4_000);
-    let (number, worked, after) = reference::run(program, start, &schedule, 4_000);
-    assert_eq!((number, worked), (0, 4_000));
+    let (answer, worked, after) = reference::run(program, start, &schedule, 4_000);
+    assert_eq!((answer.number, worked), (0, 4_000));
     let expected = (4_000..4_096).chain(0..154);
     assert_eq!(after.values, expected.collect::<Vec<u16>>());
 }
@@ -269,8 +269,8 @@ fn refused_at_the_end() {
     always_active(&workload, 10);
     let schedule = optimised::ascending_schedule(program, start, workload.cycles);
     assert_eq!(schedule.len(), 10 * 30_001);
-    let (number, worked, after) = reference::run(program, start, &schedule, workload.cycles);
-    assert_eq!((number, worked), (10, 30_000));
+    let (answer, worked, after) = reference::run(program, start, &schedule, workload.cycles);
+    assert_eq!((answer.number, worked), (10, 30_000));
     assert_eq!(after.values[..3], [30_000, 30_001, 30_002]);
 }
 

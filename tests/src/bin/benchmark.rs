@@ -1,6 +1,7 @@
 //! Times the player, the reference and the two optimised runs on the same programs, and prints
 //! tables in Markdown. `docs/BENCHMARK.md` says how to run it and what it does not show.
 
+use pahmozil_tests::answer::Answer;
 use pahmozil_tests::optimised;
 use pahmozil_tests::player;
 use pahmozil_tests::program::{Program, State};
@@ -10,11 +11,11 @@ use pahmozil_tests::workloads::{self, Workload};
 use std::hint::black_box;
 use std::process::exit;
 
-/// Gives the number and the cycles worked, and writes the state in place.
-type Run = fn(&Program, &mut State, &[u16], u16) -> (u16, u16);
+/// Gives the answer and the cycles worked, and writes the state in place.
+type Run = fn(&Program, &mut State, &[u16], u16) -> (Answer, u16);
 
 const RUNS: [Run; 4] = [
-    by_player,
+    player::run,
     by_reference,
     optimised::run,
     optimised::run_compiled,
@@ -27,15 +28,15 @@ const ROUNDS: usize = 9;
 /// own.
 const SHORT_CALLS: usize = 16;
 
-fn by_player(program: &Program, state: &mut State, schedule: &[u16], cycles: u16) -> (u16, u16) {
-    let (answer, worked) = player::run(program, state, schedule, cycles);
-    (answer.number, worked)
-}
-
-fn by_reference(program: &Program, state: &mut State, schedule: &[u16], cycles: u16) -> (u16, u16) {
-    let (number, worked, after) = reference::run(program, state, schedule, cycles);
+fn by_reference(
+    program: &Program,
+    state: &mut State,
+    schedule: &[u16],
+    cycles: u16,
+) -> (Answer, u16) {
+    let (answer, worked, after) = reference::run(program, state, schedule, cycles);
     *state = after;
-    (number, worked)
+    (answer, worked)
 }
 
 /// A workload and its least times in nanoseconds, in the order of the runs.
@@ -57,8 +58,9 @@ impl Row {
         } = &workload;
         let schedule = optimised::ascending_schedule(program, start, *cycles);
         demand_agreement(&workload, &schedule, *cycles, workload.answer);
-        demand_agreement(&workload, &schedule, 1, (0, 1));
-        demand_agreement(&workload, &schedule, 0, (0, 0));
+        let none = Answer::without_item(0);
+        demand_agreement(&workload, &schedule, 1, (none, 1));
+        demand_agreement(&workload, &schedule, 0, (none, 0));
         Row {
             workload,
             schedule,
@@ -99,7 +101,7 @@ impl Row {
 }
 
 /// Times of runs with different answers would not be comparable.
-fn demand_agreement(workload: &Workload, schedule: &[u16], cycles: u16, answer: (u16, u16)) {
+fn demand_agreement(workload: &Workload, schedule: &[u16], cycles: u16, answer: (Answer, u16)) {
     let [first, others @ ..] = RUNS.map(|run| {
         let mut state = workload.start.clone();
         let answer = run(&workload.program, &mut state, schedule, cycles);

@@ -21,8 +21,8 @@ pub fn right_schedule(
         }
         random.shuffle(&mut entries);
         list.push(entries.clone());
-        let (number, _, next) = run(program, &state, &entries, 1);
-        if number != 0 {
+        let (answer, _, next) = run(program, &state, &entries, 1);
+        if answer.number != 0 {
             break;
         }
         state = next;

@@ -11,8 +11,8 @@ pub fn reached_state(random: &mut Random, program: &Program, most: usize) -> Opt
     let mut state = begun(program, &start).ok()?;
     for _ in 0..random.between(0, most) {
         let entries = state.entries();
-        let (number, _, next) = run(program, &state, &entries, 1);
-        if number != 0 {
+        let (answer, _, next) = run(program, &state, &entries, 1);
+        if answer.number != 0 {
             break;
         }
         state = next;

@@ -1,6 +1,7 @@
 //! The limits of N and of depth.
 
 use super::Limit;
+use crate::answer::Answer;
 use crate::expression::Expressions;
 use crate::program::Program;
 use crate::statement::Statement::{self, Dly, Par, Seq};
@@ -21,7 +22,7 @@ pub fn n_1024() -> Limit {
     Limit {
         name: "N 1,024",
         program: of_nodes(1024),
-        number: 0,
+        answer: Answer::without_item(0),
     }
 }
 
@@ -29,7 +30,7 @@ pub fn n_1025() -> Limit {
     Limit {
         name: "N 1,025",
         program: of_nodes(1025),
-        number: 1,
+        answer: Answer::without_item(1),
     }
 }
 
@@ -37,14 +38,18 @@ pub fn depth_32() -> Limit {
     Limit {
         name: "depth 32",
         program: of_depth(32),
-        number: 0,
+        answer: Answer::without_item(0),
     }
 }
 
+/// The innermost node, which is the last, is too deep.
 pub fn depth_33() -> Limit {
     Limit {
         name: "depth 33",
         program: of_depth(33),
-        number: 3,
+        answer: Answer {
+            number: 3,
+            item: 32,
+        },
     }
 }

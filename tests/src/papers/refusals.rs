@@ -6,7 +6,7 @@ use crate::expression::Expressions;
 use crate::program::Program;
 use crate::statement::Statement::{Asg, Dly, Par, Whl};
 
-/// PAR{v0:=v0+1; v1:=v1+1} in its first cycle, with these widths and values.
+/// PAR{v0:=v0+1; v1:=v1+1} in its first cycle, with these widths and values. The item is 0.
 fn two_counters(name: &'static str, widths: &[u16], values: &[u16], numbers: [u16; 3]) -> Refusal {
     let mut exprs = Expressions::new();
     let one = exprs.number(1);
@@ -21,19 +21,22 @@ fn two_counters(name: &'static str, widths: &[u16], values: &[u16], numbers: [u1
         program,
         state,
         numbers,
+        item: 0,
     }
 }
 
 pub fn wrong_widths() -> Vec<Refusal> {
-    let refusal =
-        |name: &'static str, widths: &[u16]| two_counters(name, widths, &[3, 7], [11, 11, 11]);
+    let refusal = |name: &'static str, widths: &[u16], item: u16| Refusal {
+        item,
+        ..two_counters(name, widths, &[3, 7], [11, 11, 11])
+    };
     vec![
-        refusal("no width", &[]),
-        refusal("a width too few", &[16]),
-        refusal("a width too many", &[16, 16, 16]),
-        refusal("a width of 0", &[16, 0]),
-        refusal("a width of 17", &[17, 16]),
-        refusal("a width of 65,535", &[16, 65535]),
+        refusal("no width", &[], 0),
+        refusal("a width too few", &[16], 0),
+        refusal("a width too many", &[16, 16, 16], 0),
+        refusal("a width of 0", &[16, 0], 1),
+        refusal("a width of 17", &[17, 16], 0),
+        refusal("a width of 65,535", &[16, 65535], 1),
     ]
 }
 
@@ -47,6 +50,7 @@ pub fn wrong_counters() -> Vec<Refusal> {
             program,
             state,
             numbers: [11, 11, 11],
+            item: 0,
         }
     };
     vec![
@@ -78,12 +82,16 @@ pub fn eleven_comes_after_4() -> Refusal {
         program,
         state,
         numbers: [4, 4, 4],
+        item: 0,
     }
 }
 
 pub fn eleven_comes_before_5() -> Refusal {
     let name = "a width of 0, and a value too few";
-    two_counters(name, &[16, 0], &[3], [11, 11, 11])
+    Refusal {
+        item: 1,
+        ..two_counters(name, &[16, 0], &[3], [11, 11, 11])
+    }
 }
 
 pub fn five_comes_before_6() -> Refusal {
@@ -104,5 +112,6 @@ pub fn six_comes_before_10() -> Refusal {
         program,
         state,
         numbers: [0, 6, 6],
+        item: 0,
     }
 }

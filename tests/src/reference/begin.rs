@@ -5,25 +5,26 @@ use super::evaluate::evaluate;
 use super::tree::Tree;
 use super::walk::Walk;
 use super::widths::values_fit;
+use crate::answer::Answer;
 use crate::program::{Program, State};
 
-/// The number, then the marks and counts as the call leaves them.
+/// The answer, then the marks and counts as the call leaves them.
 pub fn begin(
     program: &Program,
     values: &[u16],
     marks: &[u8],
     counts: &[u16],
-) -> (u16, Vec<u8>, Vec<u16>) {
-    let refused = |number: u16| (number, marks.to_vec(), counts.to_vec());
-    let number = check(program);
-    if number != 0 {
-        return refused(number);
+) -> (Answer, Vec<u8>, Vec<u16>) {
+    let refused = |answer: Answer| (answer, marks.to_vec(), counts.to_vec());
+    let checked = check(program);
+    if checked.number != 0 {
+        return refused(checked);
     }
     if !lengths_right(program, values, marks, counts) {
-        return refused(5);
+        return refused(Answer::without_item(5));
     }
     if !values_fit(program, values) {
-        return refused(6);
+        return refused(Answer::without_item(6));
     }
     let n = program.node_count();
     let mut walk = Walk {
@@ -34,21 +35,22 @@ pub fn begin(
         counts: vec![0; n],
     };
     match walk.enter(0) {
-        Ok(_) => (0, walk.marks, walk.counts),
-        Err(_) => refused(10),
+        Ok(_) => (Answer::without_item(0), walk.marks, walk.counts),
+        Err(_) => refused(Answer::without_item(10)),
     }
 }
 
 /// The state that begin leaves, or the number that refuses it.
 pub fn begun(program: &Program, values: &[u16]) -> Result<State, u16> {
     let n = program.node_count();
-    match begin(program, values, &vec![0; n], &vec![0; n]) {
-        (0, marks, counts) => Ok(State {
+    let (answer, marks, counts) = begin(program, values, &vec![0; n], &vec![0; n]);
+    match answer.number {
+        0 => Ok(State {
             values: values.to_vec(),
             marks,
             counts,
         }),
-        (number, ..) => Err(number),
+        number => Err(number),
     }
 }
 

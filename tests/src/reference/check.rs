@@ -1,30 +1,44 @@
-//! Questions 1 to 4 and 11.
+//! Questions 1 to 4 and 11, and the first fault of each that comes with an item.
 
 use super::tree::Tree;
-use super::widths::widths_right;
+use super::widths::{bad_widths, lengths_differ};
+use crate::answer::Answer;
 use crate::program::{
     Program, ASG, DLY, IF, IN, MOST_CHANS, MOST_DEPTH, MOST_EXPRS, MOST_NODES, MOST_VARS,
     NO_PARENT, OUT, PAR, SEQ, WHL,
 };
 
-pub fn check(program: &Program) -> u16 {
+pub fn check(program: &Program) -> Answer {
     if !within_limits(program) {
-        return 1;
+        return Answer::without_item(1);
     }
-    if (0..program.expr_count()).any(|e| expression_fault(program, e)) {
-        return 2;
+    let refused = |number: u16| {
+        let item = *faults(program, number).iter().min()? as u16;
+        Some(Answer { number, item })
+    };
+    if let Some(answer) = [2, 3, 4].into_iter().find_map(refused) {
+        return answer;
     }
-    let tree = Tree::of(program);
-    if (0..program.node_count()).any(|i| node_fault_in(program, &tree, i)) {
-        return 3;
+    if lengths_differ(program) {
+        return Answer::without_item(11);
     }
-    if (0..program.node_count()).any(|i| name_fault(program, i)) {
-        return 4;
+    refused(11).unwrap_or(Answer::without_item(0))
+}
+
+/// All the expressions, nodes or variables that break question 2, 3, 4 or 11, ascending.
+pub fn faults(program: &Program, number: u16) -> Vec<usize> {
+    let exprs = 0..program.expr_count();
+    let nodes = 0..program.node_count();
+    match number {
+        2 => exprs.filter(|&e| expression_fault(program, e)).collect(),
+        3 => {
+            let tree = Tree::of(program);
+            nodes.filter(|&i| node_fault(program, &tree, i)).collect()
+        }
+        4 => nodes.filter(|&i| name_fault(program, i)).collect(),
+        11 => bad_widths(program),
+        _ => unreachable!("no other question is asked of one at a time"),
     }
-    if !widths_right(program) {
-        return 11;
-    }
-    0
 }
 
 fn within_limits(program: &Program) -> bool {
@@ -37,7 +51,7 @@ fn within_limits(program: &Program) -> bool {
 }
 
 /// Whether expression e breaks question 2.
-pub fn expression_fault(program: &Program, e: usize) -> bool {
+fn expression_fault(program: &Program, e: usize) -> bool {
     let (p, q) = (program.p(e), program.q(e));
     match program.op(e) {
         0 => q != 0,
@@ -48,11 +62,7 @@ pub fn expression_fault(program: &Program, e: usize) -> bool {
 }
 
 /// Whether node i breaks question 3.
-pub fn node_fault(program: &Program, i: usize) -> bool {
-    node_fault_in(program, &Tree::of(program), i)
-}
-
-fn node_fault_in(program: &Program, tree: &Tree, i: usize) -> bool {
+fn node_fault(program: &Program, tree: &Tree, i: usize) -> bool {
     !(kind_known(program, i)
         && end_right(program, tree, i)
         && parent_right(program, tree, i)
@@ -109,7 +119,7 @@ fn unused_words_zero(program: &Program, i: usize) -> bool {
 }
 
 /// Whether node i breaks question 4.
-pub fn name_fault(program: &Program, i: usize) -> bool {
+fn name_fault(program: &Program, i: usize) -> bool {
     let (a, b) = (program.a(i), program.b(i));
     let variable = |word: u16| word < program.vars;
     let channel = |word: u16| word < program.chans;

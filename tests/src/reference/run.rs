@@ -7,19 +7,25 @@ use super::tree::Tree;
 use super::walk::Walk;
 use super::well_formed::well_formed;
 use super::widths::kept;
+use crate::answer::Answer;
 use crate::program::{Program, State, ASG, DLY, IN, OUT};
 
-/// The number, the cycles worked, and the state as the call leaves it.
-pub fn run(program: &Program, state: &State, schedule: &[u16], cycles: u16) -> (u16, u16, State) {
-    let number = check(program);
-    if number != 0 {
-        return (number, 0, state.clone());
+/// The answer, the cycles worked, and the state as the call leaves it.
+pub fn run(
+    program: &Program,
+    state: &State,
+    schedule: &[u16],
+    cycles: u16,
+) -> (Answer, u16, State) {
+    let checked = check(program);
+    if checked.number != 0 {
+        return (checked, 0, state.clone());
     }
     if !lengths_right(program, &state.values, &state.marks, &state.counts) {
-        return (5, 0, state.clone());
+        return (Answer::without_item(5), 0, state.clone());
     }
     if !well_formed(program, state) {
-        return (6, 0, state.clone());
+        return (Answer::without_item(6), 0, state.clone());
     }
     let tree = Tree::of(program);
     let mut state = state.clone();
@@ -30,12 +36,12 @@ pub fn run(program: &Program, state: &State, schedule: &[u16], cycles: u16) -> (
         let (entries, later) = left.split_at(m.min(left.len()));
         match cycle(program, &tree, &state, entries) {
             Ok(next) => state = next,
-            Err(number) => return (number, worked, state),
+            Err(number) => return (Answer::without_item(number), worked, state),
         }
         left = later;
         worked += 1;
     }
-    (0, worked, state)
+    (Answer::without_item(0), worked, state)
 }
 
 fn cycle(program: &Program, tree: &Tree, state: &State, entries: &[u16]) -> Result<State, u16> {

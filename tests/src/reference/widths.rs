@@ -2,13 +2,15 @@
 
 use crate::program::{Program, MOST_WIDTH};
 
-/// Question 11.
-pub fn widths_right(program: &Program) -> bool {
-    program.widths.len() == program.vars as usize
-        && program
-            .widths
-            .iter()
-            .all(|width| (1..=MOST_WIDTH).contains(width))
+/// Whether there are more or fewer widths than variables.
+pub fn lengths_differ(program: &Program) -> bool {
+    program.widths.len() != program.vars as usize
+}
+
+/// The places of the widths that are none; where the lengths do not differ, the variables with one.
+pub fn bad_widths(program: &Program) -> Vec<usize> {
+    let bad = |&v: &usize| !(1..=MOST_WIDTH).contains(&program.widths[v]);
+    (0..program.widths.len()).filter(bad).collect()
 }
 
 /// What is kept of a value that is stored to the variable.

@@ -1,6 +1,7 @@
 //! A run that is refused after many cycles, so that a cost of being able to undo a cycle shows.
 
 use super::{count_up, endless, workload, Workload};
+use crate::answer::Answer;
 use crate::expression::Expressions;
 use crate::program::Program;
 use crate::statement::Statement;
@@ -24,7 +25,7 @@ pub fn refused_at_the_end() -> Workload {
     threads.push(endless(one, inner));
     let program = Program::new(exprs, Statement::Par(threads), 10, 0);
     Workload {
-        answer: (10, WORKED),
+        answer: (Answer::without_item(10), WORKED),
         ..workload("long run, refused with 10 at its end", 65_535, program)
     }
 }
