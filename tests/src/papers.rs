@@ -1,7 +1,9 @@
 //! The sample papers of the rules document, with all that it says comes out of them, and papers of our
-//! own, worked by hand: `stored_condition`, `uneven_threads` and all in `widths` and `refusals`.
+//! own, worked by hand: `stored_condition`, `uneven_threads` and all in `widths`, `refusals` and
+//! `first_fault`.
 
 mod channels;
+mod first_fault;
 mod limits;
 mod loops;
 mod plain;
@@ -9,6 +11,7 @@ mod refusals;
 mod widths;
 
 pub use channels::{delayed_out, two_in_on_one_channel, waiting_in_is_no_store};
+pub use first_fault::first_faults;
 pub use limits::{depth_32, depth_33, n_1024, n_1025};
 pub use loops::{
     countdown, loop_around_false_loop, loop_around_par, loop_becomes_zero_time, par_of_false_loops,
@@ -115,10 +118,16 @@ pub fn refusals() -> Vec<Refusal> {
         five_comes_before_6(),
         six_comes_before_10(),
     ];
-    [wrong_widths(), wrong_counters(), values_too_wide(), order]
-        .into_iter()
-        .flatten()
-        .collect()
+    [
+        wrong_widths(),
+        wrong_counters(),
+        values_too_wide(),
+        order,
+        first_faults(),
+    ]
+    .into_iter()
+    .flatten()
+    .collect()
 }
 
 pub fn limits() -> Vec<Limit> {

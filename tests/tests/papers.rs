@@ -240,6 +240,11 @@ fn six_comes_before_10() {
 }
 
 #[test]
+fn first_faults() {
+    papers::first_faults().into_iter().for_each(hold_refusal);
+}
+
+#[test]
 fn n_1024_passes() {
     hold_limit(papers::n_1024());
 }
