@@ -1,5 +1,8 @@
 //! What a call answers, beside the cycles that it works and the lists that it writes.
 
+/// The numbers that come with an item, in the order in which their questions are asked.
+pub const WITH_ITEM: [u16; 4] = [2, 3, 4, 11];
+
 #[derive(Clone, Copy, Debug, PartialEq, Eq)]
 pub struct Answer {
     /// That of the first question that is broken, or 0.

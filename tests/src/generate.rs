@@ -2,6 +2,7 @@
 
 mod damage;
 mod expressions;
+mod faults;
 mod late;
 mod maker;
 mod pattern;
@@ -13,6 +14,7 @@ mod values;
 mod widths;
 
 pub use damage::{changes, damage, rubbish, tight_limits};
+pub use faults::{places, spoil};
 pub use late::late;
 pub use program::program;
 pub use schedule::{flawed_schedule, right_schedule, schedule};

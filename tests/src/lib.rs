@@ -6,6 +6,7 @@ pub mod compare;
 pub mod documents;
 pub mod expression;
 pub mod generate;
+pub mod items;
 pub mod optimised;
 pub mod papers;
 pub mod player;

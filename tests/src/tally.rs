@@ -1,14 +1,14 @@
 //! How often each number was met, so that a comparison cannot pass by meeting few of them.
 
 pub struct Tally {
-    name: &'static str,
+    name: String,
     times: [usize; 12],
 }
 
 impl Tally {
-    pub fn new(name: &'static str) -> Tally {
+    pub fn new(name: &str) -> Tally {
         Tally {
-            name,
+            name: name.to_string(),
             times: [0; 12],
         }
     }

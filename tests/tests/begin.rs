@@ -3,6 +3,7 @@
 use pahmozil_tests::answer::Answer;
 use pahmozil_tests::compare;
 use pahmozil_tests::generate;
+use pahmozil_tests::items::Items;
 use pahmozil_tests::papers::{self, Paper};
 use pahmozil_tests::player;
 use pahmozil_tests::program::{Program, MOST_WIDTH};
@@ -55,6 +56,7 @@ fn one_case(random: &mut Random, program: &Program) -> u16 {
 fn random_programs() {
     let random = &mut Random::new(202);
     let tally = &mut Tally::new("begin");
+    let items = &mut Items::new("begin");
     for case in 0..220_000 {
         let shape = if case % 2 == 0 {
             generate::shape(random)
@@ -65,7 +67,9 @@ fn random_programs() {
         if case % 3 == 0 {
             generate::damage(random, &mut program);
         }
-        tally.meet(one_case(random, &program));
+        let number = one_case(random, &program);
+        tally.meet(number);
+        items.meet(&program, number);
     }
     for _ in 0..200 {
         let program = generate::tight_limits(random);
@@ -73,6 +77,7 @@ fn random_programs() {
     }
     tally.demand(&[0, 1, 2, 3, 4, 5, 6, 10, 11], 3_000);
     assert!(tally.total() >= 200_000);
+    items.demand();
 }
 
 /// On lists that hold what no state has.

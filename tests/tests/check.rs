@@ -2,6 +2,7 @@
 
 use pahmozil_tests::compare;
 use pahmozil_tests::generate;
+use pahmozil_tests::items::Items;
 use pahmozil_tests::papers;
 use pahmozil_tests::program::{Program, MOST_WIDTH};
 use pahmozil_tests::random::Random;
@@ -17,90 +18,108 @@ fn small(random: &mut Random) -> Program {
     generate::program(random, &shape)
 }
 
+/// What was met, over all the programs that were compared.
+struct Met {
+    numbers: Tally,
+    items: Items,
+}
+
+impl Met {
+    fn compare(&mut self, program: &Program) {
+        let number = compare::check(program);
+        self.numbers.meet(number);
+        self.items.meet(program, number);
+    }
+}
+
 #[test]
 fn random_lists() {
     let random = &mut Random::new(101);
-    let tally = &mut Tally::new("check");
+    let met = &mut Met {
+        numbers: Tally::new("check"),
+        items: Items::new("check"),
+    };
     for _ in 0..40_000 {
         assert_eq!(compare::check(&accepted(random)), 0);
-        tally.meet(0);
+        met.numbers.meet(0);
     }
-    while tally.total() < 160_000 {
-        each_word_changed(random, tally);
-        each_length_changed(random, tally);
+    while met.numbers.total() < 160_000 {
+        each_word_changed(random, met);
+        each_length_changed(random, met);
     }
-    for _ in 0..60_000 {
+    for _ in 0..100_000 {
         let mut program = if random.percent(20) {
             accepted(random)
         } else {
             small(random)
         };
         generate::damage(random, &mut program);
-        tally.meet(compare::check(&program));
+        met.compare(&program);
     }
     for _ in 0..20_000 {
-        tally.meet(compare::check(&generate::rubbish(random, 8)));
+        met.compare(&generate::rubbish(random, 8));
     }
     for _ in 0..1_500 {
-        tally.meet(compare::check(&generate::tight_limits(random)));
+        met.compare(&generate::tight_limits(random));
     }
-    tally.demand(&[0, 1, 2, 3, 4, 11], 4_000);
-    assert!(tally.total() >= 200_000);
+    met.numbers.demand(&[0, 1, 2, 3, 4, 11], 4_000);
+    assert!(met.numbers.total() >= 200_000);
+    met.items.demand();
 }
 
-fn each_word_changed(random: &mut Random, tally: &mut Tally) {
+fn each_word_changed(random: &mut Random, met: &mut Met) {
     let program = small(random);
     for at in 0..program.exprs.len() {
         for word in generate::changes(random, &program, program.exprs[at]) {
             let mut other = program.clone();
             other.exprs[at] = word;
-            tally.meet(compare::check(&other));
+            met.compare(&other);
         }
     }
     for at in 0..program.nodes.len() {
         for word in generate::changes(random, &program, program.nodes[at]) {
             let mut other = program.clone();
             other.nodes[at] = word;
-            tally.meet(compare::check(&other));
+            met.compare(&other);
         }
     }
     for at in 0..program.widths.len() {
         for width in generate::other_widths(random, program.widths[at]) {
             let mut other = program.clone();
             other.widths[at] = width;
-            tally.meet(compare::check(&other));
+            met.compare(&other);
         }
     }
     for word in generate::changes(random, &program, program.vars) {
-        tally.meet(compare::check(&Program {
+        met.compare(&Program {
             vars: word,
             ..program.clone()
-        }));
+        });
     }
     for word in generate::changes(random, &program, program.chans) {
-        tally.meet(compare::check(&Program {
+        met.compare(&Program {
             chans: word,
             ..program.clone()
-        }));
+        });
     }
 }
 
-fn each_length_changed(random: &mut Random, tally: &mut Tally) {
+fn each_length_changed(random: &mut Random, met: &mut Met) {
     let program = small(random);
     for length in 0..program.exprs.len() {
         let mut other = program.clone();
         other.exprs.truncate(length);
-        tally.meet(compare::check(&other));
+        met.compare(&other);
     }
     for length in 0..program.nodes.len() {
         let mut other = program.clone();
         other.nodes.truncate(length);
-        tally.meet(compare::check(&other));
+        met.compare(&other);
     }
     for length in 0..=program.widths.len() + 2 {
         let mut other = program.clone();
         other.widths.resize(length, MOST_WIDTH);
-        tally.meet(compare::check(&other));
+        met.compare(&other);
     }
 }
 

@@ -1,5 +1,6 @@
 //! What the random programs cover. A comparison over programs that all look alike shows little.
 
+use pahmozil_tests::answer::WITH_ITEM;
 use pahmozil_tests::generate;
 use pahmozil_tests::program::{Program, State, ASG, IF, IN, MOST_DEPTH, MOST_WIDTH, OUT};
 use pahmozil_tests::random::Random;
@@ -69,6 +70,29 @@ fn widths() {
     assert!(all_wide >= 4_000);
     assert!(all_wide <= programs.len() / 2);
     assert!(met[1..].iter().all(|&times| times >= 500));
+}
+
+/// A fault breaks its question at its place, and nothing else.
+fn hold_fault(random: &mut Random, program: &Program, number: u16) {
+    let places = generate::places(program, number);
+    if places.is_empty() {
+        return;
+    }
+    let at = random.pick(&places);
+    let mut faulty = program.clone();
+    generate::spoil(random, &mut faulty, number, at);
+    let found = WITH_ITEM.map(|other| reference::faults(&faulty, other));
+    let expected = WITH_ITEM.map(|other| Vec::from_iter((other == number).then_some(at)));
+    assert_eq!(found, expected, "{faulty:?}");
+}
+
+#[test]
+fn faults() {
+    let random = &mut Random::new(508);
+    for program in programs(509, 5_000) {
+        let numbers = WITH_ITEM.into_iter();
+        numbers.for_each(|number| hold_fault(random, &program, number));
+    }
 }
 
 /// The states before and after each of the first five cycles, as far as they are worked.

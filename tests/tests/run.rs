@@ -4,6 +4,7 @@ use pahmozil_tests::answer::Answer;
 use pahmozil_tests::compare;
 use pahmozil_tests::expression::Expressions;
 use pahmozil_tests::generate;
+use pahmozil_tests::items::Items;
 use pahmozil_tests::papers;
 use pahmozil_tests::player;
 use pahmozil_tests::program::{Program, State};
@@ -73,28 +74,41 @@ fn well_formed_states_that_no_run_need_reach() {
 }
 
 #[test]
-fn damaged_states_and_programs() {
+fn damaged_programs() {
     let random = &mut Random::new(305);
-    let tally = &mut Tally::new("run, damaged");
+    let tally = &mut Tally::new("run, damaged programs");
+    let items = &mut Items::new("run");
     while tally.total() < 80_000 {
-        let program = some_program(random);
+        let mut program = some_program(random);
         let state = generate::well_formed_state(random, &program);
+        let schedule = generate::schedule(random, &program, &state, 2);
+        generate::damage(random, &mut program);
+        let cycles = cycles_asked(random);
+        let (number, _) = compare::run(&program, &state, &schedule, cycles);
+        tally.meet(number);
+        items.meet(&program, number);
+    }
+    tally.demand(&[0, 1, 2, 3, 4, 7, 11], 2_000);
+    items.demand();
+}
+
+#[test]
+fn damaged_states() {
+    let random = &mut Random::new(309);
+    let tally = &mut Tally::new("run, damaged states");
+    while tally.total() < 50_000 {
+        let program = some_program(random);
+        let mut state = generate::well_formed_state(random, &program);
         let schedule = generate::schedule(random, &program, &state, 4);
-        let mut other = program.clone();
-        let mut lists = state.clone();
-        match random.below(3) {
-            0 => generate::damage(random, &mut other),
-            1 => generate::damaged_state(random, &program, &mut lists),
-            _ => {
-                // Two changes can leave the lists well formed again, in another way.
-                generate::damaged_state(random, &program, &mut lists);
-                generate::damaged_state(random, &program, &mut lists);
-            }
+        generate::damaged_state(random, &program, &mut state);
+        if random.percent(50) {
+            // Two changes can leave the lists well formed again, in another way.
+            generate::damaged_state(random, &program, &mut state);
         }
         let cycles = cycles_asked(random);
-        tally.meet(compare::run(&other, &lists, &schedule, cycles).0);
+        tally.meet(compare::run(&program, &state, &schedule, cycles).0);
     }
-    tally.demand(&[0, 1, 2, 3, 4, 5, 6, 7, 11], 2_000);
+    tally.demand(&[0, 5, 6], 2_000);
 }
 
 /// States of which nothing but a value is wrong.

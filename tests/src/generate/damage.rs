@@ -1,5 +1,6 @@
-//! Programs that differ from an accepted one, mostly in one place.
+//! Programs that differ from an accepted one.
 
+use super::faults::several_faults;
 use super::widths::{damage_widths, widths};
 use crate::expression::Expressions;
 use crate::program::{Program, MOST_CHANS, MOST_EXPRS, MOST_NODES, MOST_VARS, MOST_WIDTH};
@@ -25,8 +26,12 @@ pub fn changes(random: &mut Random, program: &Program, word: u16) -> Vec<u16> {
     list
 }
 
-/// One change, now and then two.
+/// Several faults, or one change, now and then two.
 pub fn damage(random: &mut Random, program: &mut Program) {
+    if random.percent(45) {
+        several_faults(random, program);
+        return;
+    }
     damage_once(random, program);
     if random.percent(15) {
         damage_once(random, program);

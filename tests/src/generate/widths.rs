@@ -39,20 +39,21 @@ pub fn other_widths(random: &mut Random, width: u16) -> Vec<u16> {
 
 /// One change, which may leave the widths right.
 pub fn damage_widths(random: &mut Random, widths: &mut Vec<u16>) {
-    match random.below(4) {
-        0 => {
-            let fewer = random.between(1, 3);
-            widths.truncate(widths.len().saturating_sub(fewer));
-        }
-        1 => {
-            let more = random.between(1, 3);
-            widths.extend((0..more).map(|_| random.between(0, 17) as u16));
-        }
-        _ if widths.is_empty() => widths.push(MOST_WIDTH),
-        _ => {
-            let at = random.below(widths.len());
-            let others = other_widths(random, widths[at]);
-            widths[at] = random.pick(&others);
-        }
+    if widths.is_empty() || random.percent(50) {
+        change_length(random, widths);
+        return;
+    }
+    let at = random.below(widths.len());
+    let others = other_widths(random, widths[at]);
+    widths[at] = random.pick(&others);
+}
+
+/// Some widths more or, if there are any, fewer.
+pub fn change_length(random: &mut Random, widths: &mut Vec<u16>) {
+    let by = random.between(1, 3);
+    if random.percent(50) {
+        widths.truncate(widths.len().saturating_sub(by));
+    } else {
+        widths.extend((0..by).map(|_| random.between(0, 17) as u16));
     }
 }
