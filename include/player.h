@@ -32,6 +32,10 @@
  * that is too short is refused with PLAYER_BOOK at the first cycle that it has too few entries for. A caller without an
  * order of their own runs one cycle at a time, and lists the nodes whose mark is 1 for its book.
  *
+ * Answers. The number of an answer tells what went wrong. With PLAYER_EXPRESSION, PLAYER_NODE, PLAYER_RANGE and
+ * PLAYER_WIDTHS the item tells where it is first found, so that a program can be mended from the top. Nothing is left
+ * open: two calls that are given equal numbers and lent equal lists answer the same and write the same.
+ *
  * Memory. A call allocates nothing. This is the most of the caller's stack that it was seen to use, over programs that
  * are large, deep or random (tests/tests/stack.rs). It is measured and not proved; 1 KB is 1,024 bytes:
  *
@@ -92,21 +96,25 @@ enum player_kind {
 };
 
 /* What went wrong. The questions are asked in this order, which is not that of the numbers: 11 is asked after 4 and
- * before 5. The answer's number is that of the first that fails. */
+ * before 5. The answer's number is that of the first that fails. With 2, 3, 4 and 11 the item is as said below; with
+ * every other number it is 0. */
 enum player_number {
     PLAYER_OK = 0, /* nothing */
     /* The list of expressions or of nodes is no whole number of records, or there are too many expressions, nodes,
      * variables or channels, or no node. */
     PLAYER_SIZES = 1,
     /* An expression has an unknown op, an operand that is no earlier expression (for op 1: no variable), or an unused
-     * word that is not 0. The item is its index. */
+     * word that is not 0. The item is the lowest index of such an expression. */
     PLAYER_EXPRESSION = 2,
     /* A node has an unknown kind, an end or a parent word that does not fit the tree, too great a depth, a number of
-     * children that its kind does not have, or an unused word that is not 0. The item is its index. */
+     * children that its kind does not have, or an unused word that is not 0. The item is the lowest index of such a
+     * node. */
     PLAYER_NODE = 3,
-    /* A node refers to a variable, channel or expression that the program does not have. The item is its index. */
+    /* A node refers to a variable, channel or expression that the program does not have. The item is the lowest index
+     * of such a node. */
     PLAYER_RANGE = 4,
-    /* There are more or fewer widths than variables, or a width is 0 or above PLAYER_WIDTH_MAX. The item is 0. */
+    /* There are more or fewer widths than variables, or a width is 0 or above PLAYER_WIDTH_MAX. The item is the lowest
+     * variable with such a width, or 0 where there are more or fewer widths than variables. */
     PLAYER_WIDTHS = 11,
     /* A list of the state has a wrong length. */
     PLAYER_STATE_LENGTHS = 5,
@@ -132,8 +140,7 @@ enum player_number {
 
 /* Checks a program: numbers 1 to 4, then 11. Nothing is written.
  *
- * The answer has the number in its low 16 bits and the item in its high 16 bits. With 2 the item is the index of an
- * expression that has the fault, with 3 and 4 that of a node; with any other number it is 0.
+ * The answer has the number in its low 16 bits and the item in its high 16 bits.
  */
 uint32_t player_check(const uint16_t *exprs, size_t exprs_len, const uint16_t *nodes, size_t nodes_len,
                       const uint16_t *widths, size_t widths_len, uint16_t vars, uint16_t chans);
@@ -157,8 +164,8 @@ uint32_t player_begin(const uint16_t *exprs, size_t exprs_len, const uint16_t *n
  * then as the last worked cycle left them; where none was worked, they are as they were. It works in the lists
  * themselves, so that nobody else may read them before it returns, and takes back what a refused cycle wrote.
  *
- * The answer has the number in its lowest 16 bits, the item, as player_check gives it, in the next 16 bits, and the
- * cycles worked in the 16 bits above. Its highest 16 bits are 0.
+ * The answer has the number in its lowest 16 bits, the item in the next 16 bits, and the cycles worked in the 16 bits
+ * above. Its highest 16 bits are 0.
  */
 uint64_t player_run(const uint16_t *exprs, size_t exprs_len, const uint16_t *nodes, size_t nodes_len,
                     const uint16_t *widths, size_t widths_len, uint16_t vars, uint16_t chans, uint16_t *values,
