@@ -49,7 +49,7 @@ impl Items {
         }
     }
 
-    /// Before 11 is asked, no other question can be broken: then there is no fault elsewhere.
+    /// What is answered with 11 has passed 2, 3 and 4, and so has no fault of another question.
     pub fn demand(&self) {
         self.several.demand(&WITH_ITEM, LEAST);
         self.elsewhere.demand(&[2, 3, 4], LEAST);

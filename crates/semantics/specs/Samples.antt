@@ -301,6 +301,6 @@ samples =
     -- a width too many or too few, beside those that are bad
     ∷ refusedStores threeSources threeStores (faultyWidths ++ 16 ∷ []) 11 0
     ∷ refusedStores threeSources threeStores (16 ∷ 17 ∷ 0 ∷ []) 11 0
-    -- a word too many among the expressions, of which one is faulty
+    -- a word too many after the expressions, of which two are faulty
     ∷ refusedStores (faultySources ++ 0 ∷ []) threeStores faultyWidths 1 0
     ∷ []

@@ -25,9 +25,14 @@ use Rattle.semantics.proofs.Lists.FaultLaws.{item-2, item-3, item-4, it
 use Rattle.semantics.proofs.Run.RunLaws.{refused-number, at-least-7, Refuses, answerOf}
 use Rattle.semantics.proofs.Run.RunLaws.{run-no-cycle, run-ended, run-refused, run-worked, run-induction}
 
--- ---- check
+-- no question of the list comes with an item
+abbrev itemless : List Question → Bool
+itemless [] = true
+itemless (q ∷ qs) = not (hasItem (q .number)) && itemless qs
 
 module _ (P : Program) where
+  -- ---- check
+
   -- a question k that asks the test of every index below n
   asked-of-each : (k n : ℕ) (ok : ℕ → Bool) → k ≢ 0
       → answeredNo k (checkQuestions P) ≡ not (every ok (below n)) || false → faultItem P k ≡ lowestFault ok n
@@ -58,11 +63,6 @@ module _ (P : Program) where
   )
 
   -- ---- begin and run
-
-  -- no question of the list comes with an item
-  abbrev itemless : List Question → Bool
-  itemless [] = true
-  itemless (q ∷ qs) = not (hasItem (q .number)) && itemless qs
 
   firstNo-item : (qs : List Question) → itemless qs ≡ true → faultItem P (firstNo qs) ≡ 0
   firstNo-item [] n = no-item P 0 refl
