@@ -27,7 +27,7 @@ pub write_then_read : (P : Program) → check_number P ≡ 0 → (values : List 
     → (w.number ≡ 0) × (c ≡ sizes_of P)
     × (r ≡ record { number = 0; item = 0; buffers = all_filled (parts_of P values) lent }))
 write_then_read P ok values as_many buffer long lent room w wrote c sized r did =
-    let (number, sizes, reading) = rules.write-then-read P ok values as_many buffer long lent room in
+    let (number, sizes, reading) = rules.write_then_read P ok values as_many buffer long lent room in
     let n = 2 * exprs_back (sizes_of P) + 16 in
     let e = rules_writing wrote in (
       ap (λ (x : Writing). x.number) e ∙ number,
@@ -50,4 +50,4 @@ read_then_write file bytes lent r did zero c sized buffer long w wrote =
     let parts : first_parts c r.buffers ≡ first_parts (sizes_answer file) (read_answer file lent).buffers =
     λ i. first_parts (sizes i) (read i).buffers in
     rules_writing wrote ∙ (λ i. write_answer (program_from (sizes i) (parts i)) (parts i).values buffer)
-    ∙ rules.read-then-write file bytes lent (sym (ap (λ (x : Reading). x.number) read) ∙ zero) buffer long
+    ∙ rules.read_then_write file bytes lent (sym (ap (λ (x : Reading). x.number) read) ∙ zero) buffer long

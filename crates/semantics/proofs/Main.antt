@@ -38,39 +38,39 @@ pub order_rule : (P : Program) → check_number P ≡ 0
     → (s : State) → lengths_ok P s ≡ true → well_formed P s ≡ true
     → (n : ℕ) (b d : List ℕ)
     → (run_answer P n s b ≡ run_answer P n s d) ↔ (first_wrong P n s b ≡ first_wrong P n s d)
-order_rule = OrderRule.order-rule
+order_rule = OrderRule.order_rule
 
 -- Where begin answers 0, questions 5 and 6 let the state by that it leaves.
 pub begun_ready : (P : Program) (s : State) → (begin_answer P s).number ≡ 0 → Ready P (begin_answer P s).state
-begun_ready = RunTheorems.begun-ready
+begun_ready = RunTheorems.begun_ready
 
 -- From such a state every number of cycles leads to such a state, so that run may be called again with what it left.
 pub run_ready : (P : Program) → check_number P ≡ 0 → (s : State) → Ready P s
     → (n : ℕ) (book : List ℕ) → Ready P (run_answer P n s book).state
-run_ready = RunTheorems.run-ready
+run_ready = RunTheorems.run_ready
 
 -- A run that is refused before its first cycle has one answer, whatever the book and the number of cycles.
 pub refused_alike : (P : Program) (s : State) → ¬ ((check_number P ≡ 0) × Ready P s)
     → (n m : ℕ) (b d : List ℕ) → run_answer P n s b ≡ run_answer P m s d
-refused_alike = RunTheorems.refused-alike
+refused_alike = RunTheorems.refused_alike
 
 -- A book that first goes wrong at cycle k is answered with 7 and k cycles worked.
 pub wrong_book : (P : Program) → check_number P ≡ 0 → (s : State) → Ready P s
     → (n : ℕ) (book : List ℕ) (k : ℕ) → first_wrong P n s book ≡ some k
     → ((run_answer P n s book).number ≡ 7) × ((run_answer P n s book).worked ≡ k)
-wrong_book = RunTheorems.wrong-book
+wrong_book = RunTheorems.wrong_book
 
 -- A book that never goes wrong is never answered with 7.
 pub right_book : (P : Program) → check_number P ≡ 0 → (s : State) → Ready P s
     → (n : ℕ) (book : List ℕ) → first_wrong P n s book ≡ none → (run_answer P n s book).number ≢ 7
-right_book = RunTheorems.right-book
+right_book = RunTheorems.right_book
 
 -- Later entries are not read: where a run asks for at most j entries, any book with the same first j is answered
 -- alike.
 pub entries_read : (P : Program) → check_number P ≡ 0 → (s : State) → Ready P s
     → (n : ℕ) (b d : List ℕ) (j : ℕ) → entries_asked P n s b ≤ j → take j b ≡ take j d
     → run_answer P n s b ≡ run_answer P n s d
-entries_read = RunTheorems.entries-read
+entries_read = RunTheorems.entries_read
 
 -- Runs compose. Where a run of n cycles works all of them, a run of n + m cycles is that run and then one of m cycles
 -- from the state that it left, with the entries that it left unread.
@@ -79,13 +79,13 @@ pub run_then_run : (P : Program) → check_number P ≡ 0 → (s : State) → Re
     → (let r = run P n s book in let a = run_answer P m r.state r.unread in
     run_answer P (n + m) s book
     ≡ record { number = a.number; item = a.item; worked = n + a.worked; state = a.state })
-run_then_run = RunTheorems.run-then-run
+run_then_run = RunTheorems.run_then_run
 
 -- Where a run of n cycles works fewer, a run of n + m cycles has the same answer.
 pub run_over : (P : Program) → check_number P ≡ 0 → (s : State) → Ready P s
     → (n m : ℕ) (book : List ℕ) → (run_answer P n s book).worked < n
     → run_answer P (n + m) s book ≡ run_answer P n s book
-run_over = RunTheorems.run-over
+run_over = RunTheorems.run_over
 
 -- One store. Where leaf i stores the value of expression e, its variable then holds as many low bits of it as it is
 -- wide, and every other variable what it held.
@@ -94,14 +94,14 @@ pub store_modulo : (P : Program) (marks table values : List ℕ) (i e : ℕ)
     → (let v = target P marks i in let after = store P marks table values i in
     (get_or after v 0 ≡ get_or table e 0 % 2 ^ width_at P.widths v)
     × ((w : ℕ) → w ≢ v → get_or after w 0 ≡ get_or values w 0))
-store_modulo = VariableWidths.store-modulo
+store_modulo = VariableWidths.store_modulo
 
 -- For an accepted program and a state that questions 5 and 6 let by, after any number of cycles by any book no value
 -- has more bits than its variable.
 pub variable_widths : (P : Program) → check_number P ≡ 0 → (s : State) → Ready P s
     → (n : ℕ) (book : List ℕ) (v : ℕ) → v < P.variables
     → get_or (run_answer P n s book).state.values v 0 < 2 ^ width_at P.widths v
-variable_widths = VariableWidths.variable-widths
+variable_widths = VariableWidths.variable_widths
 
 -- Old papers keep their answers. Where every variable is 16 bits wide, and the words of the expressions and the values
 -- are words, check, begin and run answer as the rules without widths do, whether they refuse or not.
@@ -109,7 +109,7 @@ pub old_papers : (P : Program) → P.widths ≡ replicate P.variables 16 → are
     → (s : State) → are_words s.values ≡ true
     → (check_number P ≡ plain_check_number P) × (begin_answer P s ≡ plain_begin_answer P s)
     × ((n : ℕ) (book : List ℕ) → run_answer P n s book ≡ plain_run_answer P n s book)
-old_papers = OldPapers.old-papers
+old_papers = OldPapers.old_papers
 
 -- The first fault. With 2 check's item is the lowest faulty expression, with 3 and 4 the lowest faulty node, and with
 -- 11, where there is a width for each variable, the lowest variable whose width is bad. It is 0 with 11 where there is
@@ -122,13 +122,13 @@ pub first_fault : (P : Program)
     → IsLowestFault (λ v. width_ok (width_at P.widths v)) P.variables (fault_item P (check_number P)))
     × (length P.widths ≢ P.variables → fault_item P 11 ≡ 0)
     × ((q : ℕ) → q ≢ 2 → q ≢ 3 → q ≢ 4 → q ≢ 11 → fault_item P q ≡ 0)
-first_fault = FirstFault.first-fault
+first_fault = FirstFault.first_fault
 
 -- Begin and run give check's item, for every program, state, number of cycles and book.
 pub item_of_check : (P : Program) (s : State) (n : ℕ) (book : List ℕ)
     → ((begin_answer P s).item ≡ fault_item P (check_number P))
     × ((run_answer P n s book).item ≡ fault_item P (check_number P))
-item_of_check = FirstFault.item-of-check
+item_of_check = FirstFault.item_of_check
 
 -- Papers as files: what is written is read again. Take an accepted program with a value for each variable. In a buffer
 -- that is long enough write leaves a file, with number 0. Of the file, sizes gives N, E, V and C of the program, and
@@ -141,7 +141,7 @@ pub write_then_read : (P : Program) → check_number P ≡ 0 → (values : List 
     let file = take (2 * exprs_back (sizes_of P) + 16) written.buffer in
     (written.number ≡ 0) × (sizes_answer file ≡ sizes_of P)
     × (read_answer file lent ≡ record { number = 0; item = 0; buffers = all_filled (parts_of P values) lent }))
-write_then_read = RoundTrip.write-then-read
+write_then_read = RoundTrip.write_then_read
 
 -- And what is read is written again. Take bytes that read accepts. What it leaves at the start of the buffers, written
 -- into a buffer that is long enough, gives the same bytes, with the spare bytes as they stood.
@@ -151,12 +151,12 @@ pub read_then_write : (file : List ℕ) → are_bytes file ≡ true → (lent : 
     let parts = first_parts sizes (read_answer file lent).buffers in
     write_answer (program_from sizes parts) parts.values buffer
     ≡ record { number = 0; item = 0; buffer = filled file buffer })
-read_then_write = RoundTrip.read-then-write
+read_then_write = RoundTrip.read_then_write
 
 -- Check, begin and run answer every sample paper of specs/Samples as written there.
 pub samples_pass : all_pass samples ≡ true
-samples_pass = SamplesPass.samples-pass
+samples_pass = SamplesPass.samples_pass
 
 -- Read, write and sizes answer every sample of specs/FileSamples as written there.
 pub file_samples_pass : all_files_pass file_samples ≡ true
-file_samples_pass = FileSamplesPass.file-samples-pass
+file_samples_pass = FileSamplesPass.file_samples_pass

@@ -124,8 +124,8 @@ module _ (nodes : List ℕ) (ok : NodesOk nodes) where
                     above = m.above;
                     first = m.first;
                     second = m.second;
-                    first_over = over_below m.above g i m.first (omega arith) e m.first-over;
-                    second_over = m.second-over;
+                    first_over = over_below m.above g i m.first (omega arith) e m.first_over;
+                    second_over = m.second_over;
                     apart = m.apart;
                   }
             ]
@@ -137,8 +137,8 @@ module _ (nodes : List ℕ) (ok : NodesOk nodes) where
 
   pub in_order : {i j : ℕ} → Meeting nodes i j → i < j
   in_order m =
-      let r = m.first-over in
-      let s = m.second-over in
+      let r = m.first_over in
+      let s = m.second_over in
       let covers = r.covers in
       let from = s.from in
       let h<k = (is_parent nodes m.first m.above r.child).lower in
@@ -150,8 +150,8 @@ module _ (nodes : List ℕ) (ok : NodesOk nodes) where
       (first_is_par nodes (common_ancestors nodes i j) ≡ is_par (kind_at nodes m.above))
       × (first_is_par nodes (common_ancestors nodes j i) ≡ is_par (kind_at nodes m.above)))
   meets i j fi fj m =
-      let r = m.first-over in
-      let s = m.second-over in
+      let r = m.first_over in
+      let s = m.second_over in
       let u = under_parent nodes m.first m.above r.child in
       let v = under_parent nodes m.second m.above s.child in
       let a = over_inside m.above i m.first fi r in

@@ -101,8 +101,8 @@ module _ (nodes marks counts : List ℕ) (ok : NodesOk nodes) (same : length mar
   unfolding live_children
   par_above all i j mi mj m =
       let h : ℕ = m.above in
-      let r = m.first-over in
-      let s = m.second-over in
+      let r = m.first_over in
+      let s = m.second_over in
       let fi = marked_inside nodes marks same i mi in
       let fj = marked_inside nodes marks same j mj in
       let from = r.from in
@@ -126,7 +126,7 @@ module _ (nodes marks counts : List ℕ) (ok : NodesOk nodes) (same : length mar
   pairs_right all i j l mi mj =
       let fi = marked_inside nodes marks same i mi in
       let fj = marked_inside nodes marks same j mj in
-      let leaf = ((at_node i fi).0 (all i fi)).0.is_is_leaf mi in
+      let leaf = ((at_node i fi).0 (all i fi)).0.is_leaf mi in
       let e = (facts nodes ok i fi).leaf_end leaf in
       let m = meeting nodes ok i j l fj (omega arith) in
       let q = meets nodes ok i j fi fj m in
