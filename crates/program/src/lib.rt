@@ -1,5 +1,7 @@
 // The program lists: what their words mean, which programs are accepted, and what the ops of their expressions give. Tests are
 // joined by `&`, which asks all of them: they are cheap, and none depends on another.
+#![tactic(auto)]
+
 mod expressions; // question 2
 pub mod kinds; // the numbers of the kinds
 pub mod limits; // the limits of an accepted program

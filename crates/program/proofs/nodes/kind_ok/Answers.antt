@@ -4,13 +4,12 @@ use Rattle.semantics.specs.Program.{kind_of}
 use Rattle.semantics.specs.Check.{kind_ok}
 use Rattle.semantics.proofs.Lists.Logic.{lt_or_le}
 use Rattle.semantics.proofs.Lists.KindLaws.{at_or_above, one_of_three, kind_unknown}
-use Rattle.program.proofs.nodes.kind_ok.Statement.{statement}
-use Rattle.program.proofs.nodes.kind_ok.Tie as tie
+use Rattle.program.proofs.nodes.kind_ok.Goals as goal
 
-returns : tie.Need-returns
+pub returns-in-1-to-8 : goal.returns-in-1-to-8
 unfolding kind_of kind_ok
-returns c =
-    let w = c.before.before.args.kind in
+returns-in-1-to-8 c =
+    let w = c.args.kind in
     let F : ℕ → Type 0 = λ x. true ≡ kind_ok (kind_of x) in
     at_or_above F 1 w (omega arith) refl
     (λ a. at_or_above F 2 w a refl
@@ -19,13 +18,10 @@ returns c =
       | inr v ↦ one_of_three F 6 w v (omega arith) refl refl refl
     ]))
 
-returns-2 : tie.Need-returns-2
+pub returns-in_default : goal.returns-in_default
 unfolding kind_ok
-returns-2 c = rw (kind_unknown c.before.args.kind (inl (omega arith)))
+returns-in_default c = rw (kind_unknown c.args.kind (inl (omega arith)))
 
-returns-3 : tie.Need-returns-3
+pub returns-in_default-2 : goal.returns-in_default-2
 unfolding kind_ok
-returns-3 c = rw (kind_unknown c.before.before.args.kind (inr (omega arith)))
-
-pub kind-ok-spec : {M : Type 1} → statement M
-kind-ok-spec = tie.close (tie.spec returns returns-2 returns-3)
+returns-in_default-2 c = rw (kind_unknown c.args.kind (inr (omega arith)))
