@@ -18,15 +18,13 @@ fn word_of_sizes(sizes: FileSizes) -> u64
     low + 4294967296 * high
 }
 
-#[unsafe(no_mangle)]
-pub extern "C" fn paper_sizes(file: &[u8]) -> u64
+pub fn paper_sizes(file: &[u8]) -> u64
     ensures { SizesAnswer file.now (nodes_in result) (exprs_in result) (vars_in result) (chans_in result) }
 {
     word_of_sizes(super::sizes(file))
 }
 
-#[unsafe(no_mangle)]
-pub extern "C" fn paper_read(
+pub fn paper_read(
     file: &[u8],
     exprs: &mut [u16],
     nodes: &mut [u16],
@@ -42,8 +40,7 @@ pub extern "C" fn paper_read(
     word_of(answer.number, answer.item)
 }
 
-#[unsafe(no_mangle)]
-pub extern "C" fn paper_write(
+pub fn paper_write(
     exprs: &[u16],
     nodes: &[u16],
     widths: &[u16],

@@ -1,4 +1,6 @@
 // Papers as files: the calls sizes, read and write.
+#![tactic(auto)]
+
 pub mod c_interface; // the calls for C
 mod reader; // what a file holds
 mod trailer; // the trailer, and question 12
@@ -17,7 +19,7 @@ use words::put_words;
 use writer::{put_parts, trailer_of};
 
 // The sizes of a paper: how many nodes, expressions, variables and channels it has.
-#[derive(Drop)]
+#[derive(Clone, Copy)]
 pub struct FileSizes {
     pub nodes: u16,
     pub exprs: u16,

@@ -7,7 +7,7 @@ use super::FileSizes;
 use super::words::word_in;
 
 // The distances of the four parts, in words.
-#[derive(Drop)]
+#[derive(Clone, Copy)]
 pub struct Distances {
     pub exprs: usize,
     pub nodes: usize,

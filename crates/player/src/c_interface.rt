@@ -11,14 +11,7 @@ fn word_of(number: u16, item: u16) -> u32
     (number as u32) + 65536 * (item as u32)
 }
 
-#[unsafe(no_mangle)]
-pub extern "C" fn player_check(
-    exprs: &[u16],
-    nodes: &[u16],
-    widths: &[u16],
-    vars: u16,
-    chans: u16,
-) -> u32
+pub fn player_check(exprs: &[u16], nodes: &[u16], widths: &[u16], vars: u16, chans: u16) -> u32
     ensures { CheckAnswer (program_of exprs.now nodes.now widths.now vars chans)
         (number_in result) (item_in result) }
 {
@@ -26,8 +19,7 @@ pub extern "C" fn player_check(
     word_of(checked.number, checked.item)
 }
 
-#[unsafe(no_mangle)]
-pub extern "C" fn player_begin(
+pub fn player_begin(
     exprs: &[u16],
     nodes: &[u16],
     widths: &[u16],
@@ -51,8 +43,7 @@ fn word_of_run(number: u16, item: u16, worked: u16) -> u64
     (number as u64) + 65536 * (item as u64) + 4294967296 * (worked as u64)
 }
 
-#[unsafe(no_mangle)]
-pub extern "C" fn player_run(
+pub fn player_run(
     exprs: &[u16],
     nodes: &[u16],
     widths: &[u16],

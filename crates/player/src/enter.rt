@@ -156,7 +156,7 @@ pub fn enter_child(
 }
 
 // What entering the children of a SEQ but for the last gave, and the last.
-#[derive(Drop)]
+#[derive(Clone, Copy)]
 struct Turn {
     outcome: u16,
     last: u16,

@@ -15,7 +15,7 @@ use program::ops::{NUMBER, VARIABLE};
 const NESTED_MAX: u16 = 24;
 
 // What can be read of an expression without working it: whether its value, and that.
-#[derive(Drop)]
+#[derive(Clone, Copy)]
 struct AtHand {
     known: bool,
     value: u16,

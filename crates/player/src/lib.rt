@@ -1,4 +1,6 @@
 // The player's calls, and the walks over accepted programs that they are made of.
+#![tactic(auto)]
+
 pub mod c_interface; // the calls for C
 mod channels; // question 8, and what waits
 mod claims; // what a cycle claims
@@ -77,7 +79,7 @@ pub fn begin(
 }
 
 // The number of the first question answered no, or 0, the fault item, and how many cycles were worked.
-#[derive(Drop)]
+#[derive(Clone, Copy)]
 pub struct Ran {
     pub number: u16,
     pub item: u16,

@@ -27,15 +27,15 @@ pub use values::apply_op;
 use widths::ask_widths;
 
 // The number of a variable. It is a type of its own, as a channel's is, so that neither is taken for the other.
-#[derive(Drop)]
+#[derive(Clone, Copy)]
 pub struct VarId(pub u16);
 
 // The number of a channel.
-#[derive(Drop)]
+#[derive(Clone, Copy)]
 pub struct ChanId(pub u16);
 
 // The number of the first question answered no, or 0, and the item of that number: the first fault.
-#[derive(Drop)]
+#[derive(Clone, Copy)]
 pub struct Checked {
     pub number: u16,
     pub item: u16,
