@@ -1,4 +1,4 @@
-// The calls on files for C: a slice passes as a pointer and its length in elements.
+// The calls on files with their answers in one word, as C gets them; the crate paper_c exports them.
 ghost use Rattle.std.specs.Prelude.{◌≡◌};
 ghost use Rattle.program.specs.Answer.{program_of};
 ghost use Rattle.program.specs.Word.{number_in, item_in};

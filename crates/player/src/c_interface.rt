@@ -1,4 +1,4 @@
-// The calls of the player for C: a slice passes as a pointer and its length in elements.
+// The calls of the player with their answers in one word, as C gets them; the crate player_c exports them.
 ghost use Rattle.std.specs.Prelude.{◌≡◌};
 ghost use Rattle.program.specs.Answer.{program_of, CheckAnswer};
 ghost use Rattle.player.specs.Word.{number_in, item_in, item_of_run_in, worked_in};
