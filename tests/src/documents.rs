@@ -54,7 +54,7 @@ fn code_fault(sources: &Sources, folder: &Path, code: &str) -> Option<String> {
 }
 
 fn is_crate_like(word: &str) -> bool {
-    word.chars().all(|c| c.is_ascii_lowercase())
+    word.chars().all(|c| c.is_ascii_lowercase() || c == '_')
 }
 
 fn is_right(sources: &Sources, folder: &Path, word: &str) -> bool {

@@ -56,10 +56,10 @@ fn what_exists_is_let_by() {
         See [the figures](BENCHMARK.md), [`README`](../README.md#figures), [above](#what) and \
         [out there](https://example.org/none.md). `include/player.h`, `docs/BENCHMARK.md`, `BENCHMARK.md`, \
         `player/src/lib.rt`, `must-fail/`, `must-fail/*.edit`, `crates/NAME/must-fail/NAME.edit`, `./play`, `target/staticlib/x.a`, \
-        `player_run`, `player::run`, `program::check`, `Check.checkNumber`, `order-rule`, \
+        `player_run`, `player::run`, `program::check`, `Check.check_number`, `order_rule`, \
         `faults_of`, `what_exists_is_let_by`, `PLAYER_LIB_DIR`, `u16`, `asked_as_worked`, \
         `v0:=v1`, `PAR{..}`, `axioms=9`, `65,535`, `..`, `&&`, `./play 3 down`, `N passed, 0 failed`, \
-        `rt staticlib player`.\n\n```sh\nno-such-command `no_such_name`\n```\n";
+        `rt ci player_c`.\n\n```sh\nno-such-command `no_such_name`\n```\n";
     let sources = Sources::read(&root(), &[]);
     assert_eq!(faults(&sources, Path::new("docs"), document), []);
 }
@@ -84,8 +84,8 @@ fn what_does_not_exist_is_found() {
         ("`no-such-law`", "no-such-law"),
         ("`u16`-`rule-order`", "rule-order"),
         ("`Check.noSuchName`", "Check.noSuchName"),
-        ("`Check.leaveChild`", "Check.leaveChild"),
-        ("`NoSuchFile.checkNumber`", "NoSuchFile.checkNumber"),
+        ("`Check.leave_child`", "Check.leave_child"),
+        ("`NoSuchFile.check_number`", "NoSuchFile.check_number"),
         ("`player::no_such_name`", "player::no_such_name"),
         (
             "`Check.noSuchName P ≡ 0`",

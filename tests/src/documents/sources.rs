@@ -41,7 +41,7 @@ impl Sources {
         for entry in entries {
             let entry = entry.expect("the entry can be read");
             let name = entry.file_name().to_string_lossy().into_owned();
-            if name == ".git" || name == "target" {
+            if [".git", "out", "target"].contains(&&name[..]) {
                 continue;
             }
             let path = if folder.is_empty() {
@@ -167,14 +167,20 @@ fn without_comments(ending: &str, text: &str) -> String {
     lines.collect::<Vec<_>>().join("\n")
 }
 
-/// Asks `rt` for its commands: the lines of its help that start with one.
+/// Asks `rt` for its commands: the lines of its help that show how one is called, some of them several
+/// with bars between.
 fn commands() -> Option<Words> {
     let output = Command::new("rt").output().ok()?;
     let said = [output.stdout, output.stderr].concat();
     let text = String::from_utf8_lossy(&said).into_owned();
-    let command = |line: &str| {
-        let rest = line.strip_prefix("  rt ")?;
+    let call = |line: &str| {
+        let starts = ["  rt ", "usage: rt ", "       rt "];
+        let rest = starts.iter().find_map(|start| line.strip_prefix(start))?;
         rest.split_whitespace().next().map(String::from)
     };
-    Some(text.lines().filter_map(command).collect())
+    let mut commands = Words::new();
+    for names in text.lines().filter_map(call) {
+        commands.extend(names.split('|').map(String::from));
+    }
+    Some(commands)
 }
