@@ -1,6 +1,6 @@
 /* Begins the swap PAR{v0:=v1; v1:=v0} with the values 3 and 7 and runs it in both orders of its two statements.
  *
- *   rt staticlib player
+ *   tools/archives player
  *   gcc -Iinclude examples/embed.c target/staticlib/libplayer.a -o target/embed && target/embed
  */
 #include <stdio.h>

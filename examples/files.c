@@ -1,7 +1,7 @@
 /* Writes the counter WHL 1 {v0:=v0+1}, where v0 has 12 bits and the value 4094, as a file. Reads the file into buffers
  * that have room for any paper, and plays two cycles of what was read. Then reads the file without its last byte.
  *
- *   rt staticlib player && rt staticlib paper
+ *   tools/archives
  *   gcc -Iinclude examples/files.c target/staticlib/libpaper.a target/staticlib/libplayer.a -o target/files
  *   target/files
  */
