@@ -1,16 +1,8 @@
 -- How the word that digits say is found byte by byte: what each byte does to the number that those before it say.
 -- Numbers only grow, so that one past 65,535 stays past it.
-use Prim.Native.Nat.{ℕ, suc, ◌+◌, ◌-◌, ◌*◌, ◌≤◌, ◌<◌}
-use mathlib.Core.Path.{◌≡◌, refl, sym, ap, ◌∙◌}
-use mathlib.Core.Bool.{true, false, and-false}
-use mathlib.Core.List.{List, [], ◌∷◌}
-use native.Mathlib.Nat.{le_refl, lt_irrefl, suc-ne-zero}
-use native.Mathlib.Numerals.{add-one}
-use native.Mathlib.Omega.{arith}
-use lib.Dec.{leb}
-use lib.ListN.{length, drop, get_or, drop_of_length-le}
-use lib.Seq.{drop-cons}
-use borrow.Author.Tests.{le-leb, lt-leb}
+use Rattle.std.proofs.Common.{ℕ, suc, ◌+◌, ◌-◌, ◌*◌, ◌≤◌, ◌<◌, ◌≡◌, true, false, leb, List, [], ◌∷◌, length, drop, get_or, refl, sym, ap, ◌∙◌, le_refl, lt_irrefl, suc-ne-zero, add-one, arith, le-leb, drop-cons, drop_of_length-le}
+use Rattle.std.proofs.Math.Bool.{and-false}
+use Rattle.std.proofs.lemmas.Bool.{lt-leb}
 use Rattle.play.specs.Decimal.{is_digit, are_digits, number_after, word_after, word_of}
 use Rattle.play.specs.declared.decimal.Word.TheVariants.{Is, Not}
 

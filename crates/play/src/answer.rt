@@ -2,6 +2,7 @@
 use super::line::{Line, say};
 use super::lists::words_from;
 use super::table::put_numbers;
+use std::rt::Stdout;
 
 // The most entries of a book that are told.
 const TOLD: usize = 12;
@@ -15,16 +16,16 @@ fn put_cycles(n: u16, line: Line) -> Line {
 }
 
 // A run that no question refused.
-pub fn print_worked(worked: u16, is_ended: bool) {
+pub fn print_worked(out: Stdout, worked: u16, is_ended: bool) {
     let line = Line::new().put(b"Number 0: ");
     if is_ended {
         put_cycles(worked, line.put(b"ended after "))
             .byte(b'.')
-            .end();
+            .end(out);
     } else {
         put_cycles(worked, line.put(b"stopped after "))
             .put(b", as many as were asked.")
-            .end();
+            .end(out);
     }
 }
 
@@ -48,24 +49,24 @@ fn put_refusal(number: u16, item: u16, line: Line) -> Line {
     }
 }
 
-pub fn print_begin_refused(number: u16, item: u16) {
+pub fn print_begin_refused(out: Stdout, number: u16, item: u16) {
     let line = put_number(number, item, Line::new()).put(b": begin");
-    put_refusal(number, item, line).byte(b'.').end();
-    print_reason(number);
+    put_refusal(number, item, line).byte(b'.').end(out);
+    print_reason(out, number);
 }
 
 // A paper that is not read from a file of words, or not written to one.
-pub fn print_file_refused(number: u16, item: u16) {
+pub fn print_file_refused(out: Stdout, number: u16, item: u16) {
     let line = put_number(number, item, Line::new()).put(b": the paper is");
-    put_refusal(number, item, line).byte(b'.').end();
-    print_reason(number);
+    put_refusal(number, item, line).byte(b'.').end(out);
+    print_reason(out, number);
 }
 
-pub fn print_run_refused(number: u16, item: u16, worked: u16) {
+pub fn print_run_refused(out: Stdout, number: u16, item: u16, worked: u16) {
     let line = put_number(number, item, Line::new()).put(b": run");
     let line = put_refusal(number, item, line).put(b" after ");
-    put_cycles(worked, line).byte(b'.').end();
-    print_reason(number);
+    put_cycles(worked, line).byte(b'.').end(out);
+    print_reason(out, number);
 }
 
 fn put_entries(entries: &[u16], line: Line) -> Line {
@@ -81,56 +82,72 @@ fn put_entries(entries: &[u16], line: Line) -> Line {
 }
 
 // What the book has for a cycle.
-pub fn print_entries(entries: &[u16], cycle: u16) {
+pub fn print_entries(out: Stdout, entries: &[u16], cycle: u16) {
     let line = Line::new()
         .put(b"  The book's entries for cycle ")
         .word(cycle)
         .put(b": ");
-    put_entries(entries, line).end();
+    put_entries(entries, line).end(out);
 }
 
 // What went wrong, by the number of the question.
-fn print_reason(number: u16) {
+fn print_reason(out: Stdout, number: u16) {
     match number {
-        1..=3 | 11 => print_reason_of_program(number),
-        4..=6 => print_reason_of_state(number),
+        1..=3 | 11 => print_reason_of_program(out, number),
+        4..=6 => print_reason_of_state(out, number),
         12 => say(
+            out,
             b"  The file is cut short or damaged: its length and its last 16 bytes do not fit together.",
         ),
-        _ => print_reason_of_cycle(number),
+        _ => print_reason_of_cycle(out, number),
     }
 }
 
 // A paper's lists are whole records, and it has a width for each variable: so question 1 is about the counts alone, and
 // question 11 about the widths themselves.
-fn print_reason_of_program(number: u16) {
+fn print_reason_of_program(out: Stdout, number: u16) {
     match number {
         1 => say(
+            out,
             b"  A count is outside its limits: N is 1 to 1024, E 0 to 1024, V and C 0 to 256.",
         ),
-        2 => say(b"  Its op is unknown, an operand is out of range, or an unused word is not 0."),
-        3 => say(b"  Its kind, end, parent, depth, number of children or an unused word is wrong."),
-        _ => say(b"  It is not 1 to 16 bits wide."),
+        2 => say(
+            out,
+            b"  Its op is unknown, an operand is out of range, or an unused word is not 0.",
+        ),
+        3 => say(
+            out,
+            b"  Its kind, end, parent, depth, number of children or an unused word is wrong.",
+        ),
+        _ => say(out, b"  It is not 1 to 16 bits wide."),
     }
 }
 
 // Begin alone asks question 6 of what a paper gives, and it asks it of the values.
-fn print_reason_of_state(number: u16) {
+fn print_reason_of_state(out: Stdout, number: u16) {
     match number {
         4 => say(
+            out,
             b"  It refers to a variable, a channel or an expression that the program does not have.",
         ),
-        5 => say(b"  A list of the state has a wrong length."),
-        _ => say(b"  A starting value is too wide for its variable."),
+        5 => say(out, b"  A list of the state has a wrong length."),
+        _ => say(out, b"  A starting value is too wide for its variable."),
     }
 }
 
-fn print_reason_of_cycle(number: u16) {
+fn print_reason_of_cycle(out: Stdout, number: u16) {
     match number {
-        7 => say(b"  The book's next entries are not the active statements, each once."),
-        8 => say(b"  Two active IN statements, or two active OUT statements, use one channel."),
-        9 => say(b"  Two completing statements store to one variable."),
+        7 => say(
+            out,
+            b"  The book's next entries are not the active statements, each once.",
+        ),
+        8 => say(
+            out,
+            b"  Two active IN statements, or two active OUT statements, use one channel.",
+        ),
+        9 => say(out, b"  Two completing statements store to one variable."),
         _ => say(
+            out,
             b"  A loop would go round without taking a cycle: its condition is true, and its body takes none.",
         ),
     }

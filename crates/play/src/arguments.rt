@@ -1,8 +1,13 @@
-// What the arguments after the paper ask for: an order, a number of cycles, or to write the paper.
+// The arguments, and what those after the paper ask for: an order, a number of cycles, or to write the paper.
 use super::decimal::{Reading, Word};
 use super::lists::byte_at;
 use super::playing::{AskedCycles, AskedOrder};
 use super::{decimal, errors};
+use std::env::FillError;
+use std::rt::{Env, Stderr};
+
+// The most arguments there may be, the program's name among them.
+const MOST: usize = 4;
 
 // An argument's order.
 #[derive(Drop)]
@@ -20,6 +25,17 @@ pub enum CyclesArgument {
     Unclear,
 }
 
+// How many arguments there are, the program's name among them: one more than MOST where there are more.
+pub fn arg_count(rt: &impl Env) -> usize {
+    for i in 0..=MOST {
+        let mut start = [0u8; 1];
+        if let Err(FillError::NotPresent) = rt.arg(i, &mut start) {
+            return i;
+        }
+    }
+    MOST + 1
+}
+
 fn is_up(text: &[u8]) -> bool {
     (text.len() == 2) & (byte_at(text, 0) == b'u') & (byte_at(text, 1) == b'p')
 }
@@ -33,33 +49,33 @@ fn is_down(text: &[u8]) -> bool {
 }
 
 // A book, whose entries stand in a list then.
-fn book_in(text: &[u8], book: &mut [u16]) -> Argument {
+fn book_in(err: Stderr, text: &[u8], book: &mut [u16]) -> Argument {
     match decimal::read_words(text, book) {
         Reading::Words(n) => Argument::Order(AskedOrder::Book(n)),
-        _ => unclear(text),
+        _ => unclear(err, text),
     }
 }
 
-fn unclear(text: &[u8]) -> Argument {
-    errors::no_order(text);
+fn unclear(err: Stderr, text: &[u8]) -> Argument {
+    errors::no_order(err, text);
     Argument::Unclear
 }
 
-pub fn order_in(text: &[u8], book: &mut [u16]) -> Argument {
+pub fn order_in(err: Stderr, text: &[u8], book: &mut [u16]) -> Argument {
     if is_up(text) {
         return Argument::Order(AskedOrder::Ascending);
     }
     if is_down(text) {
         return Argument::Order(AskedOrder::Descending);
     }
-    book_in(text, book)
+    book_in(err, text, book)
 }
 
-pub fn cycles_in(text: &[u8]) -> CyclesArgument {
+pub fn cycles_in(err: Stderr, text: &[u8]) -> CyclesArgument {
     match decimal::word_of(text) {
         Word::Is(n) => CyclesArgument::Cycles(AskedCycles::Number(n)),
         Word::Not => {
-            errors::no_cycles(text);
+            errors::no_cycles(err, text);
             CyclesArgument::Unclear
         }
     }

@@ -7,10 +7,11 @@ use super::lists::{copy, past, words_from};
 use super::table;
 use super::table::Columns;
 use program::limits::{NODES_MAX, VARS_MAX};
+use std::rt::Stdout;
 
 // How a program is played: its number of variables and their widths, its number of channels, the order, the cycles
 // asked and the table's columns.
-#[derive(Drop)]
+#[derive(Clone, Copy)]
 pub struct Settings {
     pub vars: u16,
     pub widths: [u16; 256],
@@ -52,6 +53,7 @@ fn stop_at(cycle: Cycle, worked: u16, read: usize) -> Stop {
 
 // Works a cycle and prints its row, with the state before it, unless it is refused.
 fn work_cycle(
+    out: Stdout,
     exprs: &[u16],
     nodes: &[u16],
     values: &mut [u16],
@@ -80,6 +82,7 @@ fn work_cycle(
     );
     if ran.number == 0 {
         table::print_row(
+            out,
             cycle,
             words_from(&old_values, 0, values.len()),
             entries,
@@ -92,6 +95,7 @@ fn work_cycle(
 
 // Works the cycle that the run comes to, if a mark stands.
 fn work_next(
+    out: Stdout,
     exprs: &[u16],
     nodes: &[u16],
     values: &mut [u16],
@@ -110,6 +114,7 @@ fn work_next(
     let order = settings.order;
     let count = next_entries(order, book, read, marks, m, &mut list);
     let ran = work_cycle(
+        out,
         exprs,
         nodes,
         values,
@@ -124,6 +129,7 @@ fn work_next(
 
 // Works cycles up to the number asked, and stops before that at an ended state or a refused cycle.
 fn work_cycles(
+    out: Stdout,
     exprs: &[u16],
     nodes: &[u16],
     values: &mut [u16],
@@ -136,7 +142,7 @@ fn work_cycles(
     let mut read = 0;
     while worked < settings.cycles {
         let cycle = work_next(
-            exprs, nodes, values, marks, counts, book, settings, read, worked,
+            out, exprs, nodes, values, marks, counts, book, settings, read, worked,
         );
         if (cycle.m == 0) | (cycle.number != 0) {
             return stop_at(cycle, worked, read);
@@ -149,6 +155,7 @@ fn work_cycles(
 
 // The row of a cycle that is refused, and the answer.
 fn print_refused(
+    out: Stdout,
     stop: Stop,
     values: &[u16],
     active: &[u16],
@@ -156,16 +163,17 @@ fn print_refused(
     book: &[u16],
     columns: Columns,
 ) {
-    table::print_row(stop.worked, values, active, counts, columns);
-    say(b"");
-    print_run_refused(stop.number, stop.item, stop.worked);
+    table::print_row(out, stop.worked, values, active, counts, columns);
+    say(out, b"");
+    print_run_refused(out, stop.number, stop.item, stop.worked);
     if stop.number == 7 {
-        print_entries(words_from(book, stop.read, active.len()), stop.worked);
+        print_entries(out, words_from(book, stop.read, active.len()), stop.worked);
     }
 }
 
 // The last row and the answer.
 fn print_end(
+    out: Stdout,
     stop: Stop,
     values: &[u16],
     marks: &[u8],
@@ -177,16 +185,17 @@ fn print_end(
     let count = ascending(marks, &mut list);
     let active = words_from(&list, 0, count);
     if stop.number != 0 {
-        print_refused(stop, values, active, counts, book, columns);
+        print_refused(out, stop, values, active, counts, book, columns);
         return;
     }
-    table::print_last_row(values, active, counts, columns);
-    say(b"");
-    print_worked(stop.worked, active.len() == 0);
+    table::print_last_row(out, values, active, counts, columns);
+    say(out, b"");
+    print_worked(out, stop.worked, active.len() == 0);
 }
 
 // Plays from the state that begin has made.
 fn play_begun(
+    out: Stdout,
     exprs: &[u16],
     nodes: &[u16],
     values: &mut [u16],
@@ -195,13 +204,17 @@ fn play_begun(
     book: &[u16],
     settings: Settings,
 ) {
-    say(b"Each row is the state before a cycle, with the active statements in the order worked.");
-    table::print_head(values.len(), settings.columns);
-    let stop = work_cycles(exprs, nodes, values, marks, counts, book, settings);
-    print_end(stop, values, marks, counts, book, settings.columns);
+    say(
+        out,
+        b"Each row is the state before a cycle, with the active statements in the order worked.",
+    );
+    table::print_head(out, values.len(), settings.columns);
+    let stop = work_cycles(out, exprs, nodes, values, marks, counts, book, settings);
+    print_end(out, stop, values, marks, counts, book, settings.columns);
 }
 
 pub fn play(
+    out: Stdout,
     exprs: &[u16],
     nodes: &[u16],
     values: &mut [u16],
@@ -222,8 +235,8 @@ pub fn play(
         counts,
     );
     if answer.number != 0 {
-        print_begin_refused(answer.number, answer.item);
+        print_begin_refused(out, answer.number, answer.item);
         return;
     }
-    play_begun(exprs, nodes, values, marks, counts, book, settings);
+    play_begun(out, exprs, nodes, values, marks, counts, book, settings);
 }

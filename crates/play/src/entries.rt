@@ -3,7 +3,7 @@ use super::lists::{copy, places_of_bytes, reverse, words_from};
 use program::limits::NODES_MAX;
 
 // The order in which the active statements of a cycle are worked.
-#[derive(Drop)]
+#[derive(Clone, Copy)]
 pub enum Order {
     Ascending,
     Descending,

@@ -6,8 +6,8 @@ use super::layout::{
 use super::line::Line;
 use super::lists::{bytes_between, copy_at, past, set_word, words_from};
 use super::{errors, file};
-use bytes::scan::find;
 use program::limits::{EXPRS_MAX, NODES_MAX, VARS_MAX};
+use std::rt::{Files, Stderr, Stdout};
 
 // The longest file of words that holds an accepted program.
 const BYTES: usize = 2 * (3 * EXPRS_MAX + 5 * NODES_MAX + 2 * (VARS_MAX as usize)) + 16;
@@ -27,7 +27,7 @@ pub enum Paper {
 // Whether bytes are a file of words and not a text. A text has no byte 0; a file that is accepted has one, since V is
 // at most 256: one of V's two bytes is 0.
 pub fn is_of_words(contents: &[u8]) -> bool {
-    find(contents, 0, contents.len(), 0) < contents.len()
+    contents.iter().any(|byte| *byte == 0)
 }
 
 fn put_sizes(sizes: paper::FileSizes, words: &mut [u16]) {
@@ -58,14 +58,14 @@ fn put_lists(
 }
 
 // Reads a file of words into a list of words.
-pub fn read(contents: &[u8], words: &mut [u16]) -> Paper {
+pub fn read(out: Stdout, contents: &[u8], words: &mut [u16]) -> Paper {
     let mut exprs = [0u16; 3 * EXPRS_MAX];
     let mut nodes = [0u16; 5 * NODES_MAX];
     let mut values = [0u16; VARS_MAX as usize];
     let mut widths = [0u16; VARS_MAX as usize];
     let answer = paper::read(contents, &mut exprs, &mut nodes, &mut values, &mut widths);
     if answer.number != 0 {
-        print_file_refused(answer.number, answer.item);
+        print_file_refused(out, answer.number, answer.item);
         return Paper::Refused;
     }
     let sizes = paper::sizes(contents);
@@ -92,7 +92,7 @@ fn length_of(words: &[u16]) -> usize {
 }
 
 // Writes a paper to a new file of words.
-pub fn write(words: &[u16], target: &[u8]) {
+pub fn write(files: &impl Files, out: Stdout, err: Stderr, words: &[u16], target: &[u8]) {
     let mut contents = [0u8; BYTES];
     let answer = paper::write(
         exprs_in(words),
@@ -104,18 +104,17 @@ pub fn write(words: &[u16], target: &[u8]) {
         &mut contents,
     );
     if answer.number != 0 {
-        print_file_refused(answer.number, answer.item);
+        print_file_refused(out, answer.number, answer.item);
         return;
     }
     let length = length_of(words);
-    if file::create(target, bytes_between(&contents, 0, length)) {
-        Line::new()
+    match file::create(files, target, bytes_between(&contents, 0, length)) {
+        Ok(()) => Line::new()
             .number(length)
             .put(b" bytes are written to ")
             .readable(target)
             .byte(b'.')
-            .end();
-    } else {
-        errors::unwritten(target);
+            .end(out),
+        Err(error) => errors::unwritten(err, target, error),
     }
 }

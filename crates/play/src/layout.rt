@@ -4,6 +4,7 @@ use super::errors;
 use super::lists::{less, words_from};
 use program::limits::{EXPRS_MAX, NODES_MAX, VARS_MAX};
 use program::words::word_at;
+use std::rt::Stderr;
 
 // The longest book.
 pub const BOOK: usize = 4096;
@@ -87,14 +88,14 @@ pub fn book_in(words: &[u16]) -> &[u16] {
 }
 
 // Whether a paper has all its lists, and a book of no more entries than there may be; if not, a line says so.
-pub fn is_whole(name: &[u8], words: &[u16]) -> bool {
+pub fn is_whole(err: Stderr, name: &[u8], words: &[u16]) -> bool {
     let places = places_in(words);
     if words.len() < places.book {
-        errors::cut_short(name, words.len(), places.book);
+        errors::cut_short(err, name, words.len(), places.book);
         return false;
     }
     if BOOK < less(words.len(), places.book) {
-        errors::too_long(name, b"book", BOOK, b" entries.");
+        errors::too_long(err, name, b"book", BOOK, b" entries.");
         return false;
     }
     true

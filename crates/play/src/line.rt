@@ -2,13 +2,16 @@
 ghost use Rattle.std.specs.Prelude.{◌≤◌};
 
 use super::lists::{bytes_between, less};
-use libc::STDOUT_FILENO;
+use std::fmt;
+use std::fmt::Write;
+use std::io::Print;
+use std::rt::Stdout;
 
 // The widest line, in characters.
 pub const WIDTH: usize = 100;
 
 // The characters of a line, with a place for the byte that ends it, and how many there are.
-#[derive(Drop)]
+#[derive(Clone, Copy)]
 pub struct Line {
     pub text: [u8; 101],
     pub len: usize,
@@ -85,9 +88,9 @@ impl Line {
     }
 
     pub fn number(self, n: usize) -> Line {
-        let mut digits = [0u8; 20];
-        let k = io::decimal(n as u64, &mut digits);
-        self.put(&digits[..k])
+        let mut line = self;
+        let _ = write!(line, "{n}");
+        line
     }
 
     pub fn word(self, word: u16) -> Line {
@@ -118,19 +121,27 @@ impl Line {
         self
     }
 
-    // Writes the line to a descriptor.
-    pub fn write(self, fd: i32) {
+    // Writes the line to one of the two outputs, in one call. A line that cannot be written is let go.
+    pub fn write(self, to: &impl Print) {
         let line = self.ended();
         let text = line.text;
-        io::write_all(fd, bytes_between(&text, 0, line.len));
+        let _ = to.write_all(bytes_between(&text, 0, line.len));
     }
 
-    pub fn end(self) {
-        self.write(STDOUT_FILENO);
+    pub fn end(self, out: Stdout) {
+        self.write(&out);
+    }
+}
+
+// What std formats is put together as the rest of a line is.
+impl fmt::Write for Line {
+    fn write_str(&mut self, text: &str) -> fmt::Result {
+        *self = self.put(text.as_bytes());
+        Ok(())
     }
 }
 
 // A whole line.
-pub fn say(text: &[u8]) {
-    Line::new().put(text).end();
+pub fn say(out: Stdout, text: &[u8]) {
+    Line::new().put(text).end(out);
 }

@@ -5,6 +5,7 @@ use super::lists::{as_word, byte_at, less, set_word};
 use program::kinds::{ASG, DLY, IF, IN, OUT, PAR, SEQ, WHL};
 use program::limits::{DEPTH_MAX, EXPRS_MAX, NODES_MAX, WIDTH_MAX};
 use program::words::{a_word, b_word, kind_word, parent_word, word_at};
+use std::rt::Stdout;
 
 // Where the statements stand, after the numbers of their nodes.
 const START: usize = 6;
@@ -55,7 +56,7 @@ fn indent(depth: u16) -> usize {
 }
 
 // An IF's second child comes after the word ELSE, which is no node.
-fn print_else(nodes: &[u16], i: u16, depth: u16) {
+fn print_else(out: Stdout, nodes: &[u16], i: u16, depth: u16) {
     let parent = parent_word(nodes, i);
     if i <= parent {
         return;
@@ -67,50 +68,57 @@ fn print_else(nodes: &[u16], i: u16, depth: u16) {
         Line::new()
             .pad_to(less(indent(depth), 2))
             .put(b"ELSE")
-            .end();
+            .end(out);
     }
 }
 
-fn print_node(exprs: &[u16], nodes: &[u16], i: u16, depth: u16, named: &mut [u8]) {
+fn print_node(out: Stdout, exprs: &[u16], nodes: &[u16], i: u16, depth: u16, named: &mut [u8]) {
     let line = Line::new().word_to(4, i).pad_to(indent(depth));
-    put_statement(exprs, nodes, i, named, line).end();
+    put_statement(exprs, nodes, i, named, line).end(out);
 }
 
-fn print_nodes(exprs: &[u16], nodes: &[u16], count: u16, depths: &mut [u16], named: &mut [u8]) {
+fn print_nodes(
+    out: Stdout,
+    exprs: &[u16],
+    nodes: &[u16],
+    count: u16,
+    depths: &mut [u16],
+    named: &mut [u8],
+) {
     let mut i: u16 = 0;
     while i < count {
         let depth = depth_of(nodes, i, depths);
         set_word(depths, i as usize, depth);
-        print_else(nodes, i, depth);
-        print_node(exprs, nodes, i, depth, named);
+        print_else(out, nodes, i, depth);
+        print_node(out, exprs, nodes, i, depth, named);
         i += 1;
     }
 }
 
-fn print_if_named(exprs: &[u16], e: u16, named: &mut [u8]) {
+fn print_if_named(out: Stdout, exprs: &[u16], e: u16, named: &mut [u8]) {
     if byte_at(named, e as usize) == 1 {
         let line = Line::new().pad_to(START).name(b'e', e).put(b" is ");
-        put_expression(exprs, e, named, line).end();
+        put_expression(exprs, e, named, line).end(out);
     }
 }
 
 // The expressions that the listing names, from the last to the first: those that they name in turn are lower.
-fn print_named(exprs: &[u16], count: u16, named: &mut [u8]) {
+fn print_named(out: Stdout, exprs: &[u16], count: u16, named: &mut [u8]) {
     let mut left = count;
     while 0 < left {
         left -= 1;
-        print_if_named(exprs, left, named);
+        print_if_named(out, exprs, left, named);
     }
 }
 
-pub fn print(exprs: &[u16], nodes: &[u16], expr_count: u16, node_count: u16) {
+pub fn print(out: Stdout, exprs: &[u16], nodes: &[u16], expr_count: u16, node_count: u16) {
     let mut depths = [0u16; NODES_MAX];
     let mut named = [0u8; EXPRS_MAX];
-    print_nodes(exprs, nodes, node_count, &mut depths, &mut named);
-    print_named(exprs, expr_count, &mut named);
+    print_nodes(out, exprs, nodes, node_count, &mut depths, &mut named);
+    print_named(out, exprs, expr_count, &mut named);
 }
 
-fn print_width(v: u16, width: u16) {
+fn print_width(out: Stdout, v: u16, width: u16) {
     if width != WIDTH_MAX {
         let line = Line::new()
             .pad_to(START)
@@ -122,15 +130,15 @@ fn print_width(v: u16, width: u16) {
         } else {
             line.put(b" bits")
         };
-        line.put(b" wide").end();
+        line.put(b" wide").end(out);
     }
 }
 
 // The variables that are not as wide as a word.
-pub fn print_widths(widths: &[u16]) {
+pub fn print_widths(out: Stdout, widths: &[u16]) {
     let mut v = 0;
     while v < widths.len() {
-        print_width(as_word(v), widths[v]);
+        print_width(out, as_word(v), widths[v]);
         v += 1;
     }
 }

@@ -5,8 +5,10 @@
 //   play PAPER --write FILE        writes a paper to a new file of words
 // PAPER is the number of a paper that comes with the program, or a file: a text, or a file of words. ORDER is up, down,
 // or a book such as 2,1.
+#![tactic(auto)]
+
 mod answer; // the answer in words
-mod arguments; // what the arguments ask for
+mod arguments; // the arguments, and what they ask for
 mod cycles; // begin, and run a cycle at a time
 mod decimal; // decimal text into words
 mod entries; // the entries for a cycle
@@ -23,25 +25,37 @@ mod playing; // playing a paper
 mod source; // papers by number and from files
 mod table; // the table
 
-use arguments::{Argument, CyclesArgument, cycles_in, is_write, order_in};
+use arguments::{Argument, CyclesArgument, arg_count, cycles_in, is_write, order_in};
 use decimal::{Word, word_of};
 use lists::{bytes_between, words_from};
 use playing::{Asked, AskedCycles, nothing_asked};
 use source::Found;
+use std::rt::{Env, Files, Stderr, Stdout};
+
+// The longest argument.
+const ARGUMENT: usize = 4096;
 
 // The paper of a name, in a list of words.
-fn find(name: &[u8], words: &mut [u16]) -> Found {
+fn find(files: &impl Files, out: Stdout, err: Stderr, name: &[u8], words: &mut [u16]) -> Found {
     match word_of(name) {
-        Word::Is(paper) => source::numbered(paper, words),
-        Word::Not => source::in_file(name, words),
+        Word::Is(paper) => source::numbered(err, paper, words),
+        Word::Not => source::in_file(files, out, err, name, words),
     }
 }
 
-fn play_named(name: &[u8], asked: Asked, book: &[u16]) {
+fn play_named(
+    files: &impl Files,
+    out: Stdout,
+    err: Stderr,
+    name: &[u8],
+    asked: Asked,
+    book: &[u16],
+) {
     let mut words = [0u16; layout::WORDS];
-    let found = find(name, &mut words);
+    let found = find(files, out, err, name, &mut words);
     if found.is_paper {
         playing::play(
+            out,
             found.heading,
             words_from(&words, 0, found.words),
             asked,
@@ -50,91 +64,105 @@ fn play_named(name: &[u8], asked: Asked, book: &[u16]) {
     }
 }
 
-fn write_named(name: &[u8], target: &[u8]) {
+fn write_named(files: &impl Files, out: Stdout, err: Stderr, name: &[u8], target: &[u8]) {
     let mut words = [0u16; layout::WORDS];
-    let found = find(name, &mut words);
+    let found = find(files, out, err, name, &mut words);
     if found.is_paper {
-        files::write(words_from(&words, 0, found.words), target);
+        files::write(files, out, err, words_from(&words, 0, found.words), target);
     }
 }
 
 // The first argument.
-fn play_first_argument(asked: Asked, book: &[u16]) {
-    let mut buffer = io::buffer();
-    let n = os::arg(1, &mut buffer);
-    if os::errno() != 0 {
-        errors::say(b"the name of the paper is too long.");
+fn play_first_argument(
+    rt: &(impl Env + Files),
+    out: Stdout,
+    err: Stderr,
+    asked: Asked,
+    book: &[u16],
+) {
+    let mut buffer = [0u8; ARGUMENT];
+    let Ok(n) = rt.arg(1, &mut buffer) else {
+        errors::say(err, b"the name of the paper is too long.");
         return;
-    }
-    play_named(bytes_between(&buffer, 0, n), asked, book);
+    };
+    play_named(rt, out, err, bytes_between(&buffer, 0, n), asked, book);
 }
 
 // The first argument, in the order of a text and for so many cycles.
-fn play_in_order(text: &[u8], cycles: AskedCycles) {
+fn play_in_order(
+    rt: &(impl Env + Files),
+    out: Stdout,
+    err: Stderr,
+    text: &[u8],
+    cycles: AskedCycles,
+) {
     let mut book = [0u16; layout::BOOK];
-    let Argument::Order(order) = order_in(text, &mut book) else {
+    let Argument::Order(order) = order_in(err, text, &mut book) else {
         return;
     };
-    play_first_argument(Asked { order, cycles }, &book);
+    play_first_argument(rt, out, err, Asked { order, cycles }, &book);
 }
 
 // The first argument, written to the third.
-fn write_first_argument(target: &[u8]) {
-    let mut buffer = io::buffer();
-    let n = os::arg(1, &mut buffer);
-    if os::errno() != 0 {
-        errors::say(b"the name of the paper is too long.");
-        return;
-    }
-    write_named(bytes_between(&buffer, 0, n), target);
-}
-
-fn with_third_argument(second: &[u8]) {
-    let mut buffer = io::buffer();
-    let n = os::arg(3, &mut buffer);
-    if os::errno() != 0 {
-        errors::say(b"the last argument is too long.");
-        return;
-    }
-    let third = bytes_between(&buffer, 0, n);
-    if is_write(second) {
-        write_first_argument(third);
-        return;
-    }
-    let CyclesArgument::Cycles(cycles) = cycles_in(third) else {
+fn write_first_argument(rt: &(impl Env + Files), out: Stdout, err: Stderr, target: &[u8]) {
+    let mut buffer = [0u8; ARGUMENT];
+    let Ok(n) = rt.arg(1, &mut buffer) else {
+        errors::say(err, b"the name of the paper is too long.");
         return;
     };
-    play_in_order(second, cycles);
+    write_named(rt, out, err, bytes_between(&buffer, 0, n), target);
+}
+
+fn with_third_argument(rt: &(impl Env + Files), out: Stdout, err: Stderr, second: &[u8]) {
+    let mut buffer = [0u8; ARGUMENT];
+    let Ok(n) = rt.arg(3, &mut buffer) else {
+        errors::say(err, b"the last argument is too long.");
+        return;
+    };
+    let third = bytes_between(&buffer, 0, n);
+    if is_write(second) {
+        write_first_argument(rt, out, err, third);
+        return;
+    }
+    let CyclesArgument::Cycles(cycles) = cycles_in(err, third) else {
+        return;
+    };
+    play_in_order(rt, out, err, second, cycles);
 }
 
 // With two arguments or three.
-fn with_second_argument(count: usize) {
-    let mut buffer = io::buffer();
-    let n = os::arg(2, &mut buffer);
-    if os::errno() != 0 {
-        errors::say(b"the book is too long.");
+fn with_second_argument(rt: &(impl Env + Files), out: Stdout, err: Stderr, count: usize) {
+    let mut buffer = [0u8; ARGUMENT];
+    let Ok(n) = rt.arg(2, &mut buffer) else {
+        errors::say(err, b"the book is too long.");
         return;
-    }
+    };
     let second = bytes_between(&buffer, 0, n);
     if 3 < count {
-        with_third_argument(second);
+        with_third_argument(rt, out, err, second);
     } else if is_write(second) {
-        errors::say(b"name the file to write, as in ./play 3 --write swap.words.");
+        errors::say(
+            err,
+            b"name the file to write, as in ./play 3 --write swap.words.",
+        );
     } else {
-        play_in_order(second, AskedCycles::Own);
+        play_in_order(rt, out, err, second, AskedCycles::Own);
     }
 }
 
-fn main() {
-    let count = os::arg_count();
+fn main(rt: HostRuntime) {
+    let out = rt.stdout();
+    let err = rt.stderr();
+    let count = arg_count(&rt);
     match count {
         0..=1 => {
-            play_named(b"1", nothing_asked(), &[]);
-            source::print_papers();
+            play_named(&rt, out, err, b"1", nothing_asked(), &[]);
+            source::print_papers(out);
         }
-        2 => play_first_argument(nothing_asked(), &[]),
-        3..=4 => with_second_argument(count),
+        2 => play_first_argument(&rt, out, err, nothing_asked(), &[]),
+        3..=4 => with_second_argument(&rt, out, err, count),
         _ => errors::say(
+            err,
             b"give a paper, an order and a number of cycles at most, as in ./play 3 down 2.",
         ),
     }

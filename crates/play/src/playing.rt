@@ -10,9 +10,10 @@ use super::lists::{copy, least, words_from};
 use super::table::columns_of;
 use super::{cycles, listing};
 use program::limits::{NODES_MAX, VARS_MAX};
+use std::rt::Stdout;
 
 // The order that is asked for.
-#[derive(Drop)]
+#[derive(Clone, Copy)]
 pub enum AskedOrder {
     // None: the paper's book, or ascending where it has none.
     Own,
@@ -23,7 +24,7 @@ pub enum AskedOrder {
 }
 
 // The cycles that are asked for.
-#[derive(Drop)]
+#[derive(Clone, Copy)]
 pub enum AskedCycles {
     // As many as the paper says.
     Own,
@@ -96,11 +97,11 @@ fn put_order(order: Order, line: Line) -> Line {
     }
 }
 
-fn print_head(heading: Line, words: &[u16], cycles: u16, order: Order) {
-    heading.end();
+fn print_head(out: Stdout, heading: Line, words: &[u16], cycles: u16, order: Order) {
+    heading.end(out);
     let line = put_sizes(words, Line::new()).put(b"; ");
-    put_order(order, put_count(cycles, b" cycle", line)).end();
-    say(b"");
+    put_order(order, put_count(cycles, b" cycle", line)).end(out);
+    say(out, b"");
 }
 
 // Widths in a list of their own, since a struct holds no part of another list.
@@ -123,7 +124,14 @@ fn settings_of(words: &[u16], order: Order, cycles: u16) -> Settings {
 }
 
 // Plays a program on state lists of its own.
-fn play_on_lists(exprs: &[u16], nodes: &[u16], given: &[u16], book: &[u16], settings: Settings) {
+fn play_on_lists(
+    out: Stdout,
+    exprs: &[u16],
+    nodes: &[u16],
+    given: &[u16],
+    book: &[u16],
+    settings: Settings,
+) {
     let mut values = [0u16; VARS_MAX as usize];
     let mut marks = [0u8; NODES_MAX];
     let mut counts = [0u16; NODES_MAX];
@@ -131,6 +139,7 @@ fn play_on_lists(exprs: &[u16], nodes: &[u16], given: &[u16], book: &[u16], sett
     let v = least(given.len(), VARS_MAX as usize);
     let n = least(nodes.len() / 5, NODES_MAX);
     cycles::play(
+        out,
         exprs,
         nodes,
         &mut values[0..v],
@@ -142,22 +151,24 @@ fn play_on_lists(exprs: &[u16], nodes: &[u16], given: &[u16], book: &[u16], sett
 }
 
 // Prints and plays a paper.
-pub fn play<'a>(heading: Line, words: &'a [u16], asked: Asked, given: &'a [u16]) {
+pub fn play<'a>(out: Stdout, heading: Line, words: &'a [u16], asked: Asked, given: &'a [u16]) {
     let own = book_in(words);
     let asked_order = asked.order;
     let order = order_of(asked_order, own);
     let asked_cycles = asked.cycles;
     let cycles = cycles_of(asked_cycles, cycles_in(words));
-    print_head(heading, words, cycles, order);
+    print_head(out, heading, words, cycles, order);
     listing::print(
+        out,
         exprs_in(words),
         nodes_in(words),
         expr_count(words),
         node_count(words),
     );
-    listing::print_widths(widths_in(words));
-    say(b"");
+    listing::print_widths(out, widths_in(words));
+    say(out, b"");
     play_on_lists(
+        out,
         exprs_in(words),
         nodes_in(words),
         values_in(words),

@@ -5,6 +5,7 @@ use super::line::{Line, WIDTH, digits_of};
 use super::lists::{as_word, least, less, most, places_of_words, words_from};
 use program::limits::NODES_MAX;
 use program::words::word_at;
+use std::rt::Stdout;
 
 // Where the values start, and how wide the column of one is.
 const VALUES_AT: usize = 5;
@@ -18,7 +19,7 @@ const LINES: usize = 8;
 const PAR_WIDTH: usize = 16;
 
 // How many variables, active statements and PARs a line has, and where the last two start.
-#[derive(Drop)]
+#[derive(Clone, Copy)]
 pub struct Columns {
     pub values: usize,
     pub active: usize,
@@ -192,6 +193,7 @@ fn put_threads(pars: &[u16], counts: &[u16], j: usize, columns: Columns, line: L
 }
 
 fn print_line(
+    out: Stdout,
     values: &[u16],
     active: &[u16],
     pars: &[u16],
@@ -203,11 +205,12 @@ fn print_line(
     let first = first_of_line(j, columns.values);
     let line = put_values(words_from(values, first, columns.values), line);
     let line = put_active(active, j, columns, line);
-    put_threads(pars, counts, j, columns, line).end();
+    put_threads(pars, counts, j, columns, line).end(out);
 }
 
 // The lines of a row after its first.
 fn print_further_lines(
+    out: Stdout,
     values: &[u16],
     active: &[u16],
     pars: &[u16],
@@ -217,7 +220,7 @@ fn print_further_lines(
 ) {
     let mut j = 1;
     while j < count {
-        print_line(values, active, pars, counts, j, columns, Line::new());
+        print_line(out, values, active, pars, counts, j, columns, Line::new());
         j += 1;
     }
 }
@@ -225,7 +228,14 @@ fn print_further_lines(
 // ---- rows
 
 // A state, in a line in which its label stands already.
-fn print_state(values: &[u16], active: &[u16], counts: &[u16], columns: Columns, line: Line) {
+fn print_state(
+    out: Stdout,
+    values: &[u16],
+    active: &[u16],
+    counts: &[u16],
+    columns: Columns,
+    line: Line,
+) {
     let mut list = [0u16; NODES_MAX];
     let par_count = places_of_words(counts, &mut list);
     let pars = words_from(&list, 0, par_count);
@@ -235,20 +245,33 @@ fn print_state(values: &[u16], active: &[u16], counts: &[u16], columns: Columns,
     );
     let of_values = lines_for(values.len(), columns.values);
     let count = most(of_values, least(of_lists, LINES));
-    print_line(values, active, pars, counts, 0, columns, line);
-    print_further_lines(values, active, pars, counts, count, columns);
+    print_line(out, values, active, pars, counts, 0, columns, line);
+    print_further_lines(out, values, active, pars, counts, count, columns);
 }
 
 // The state before a cycle.
-pub fn print_row(cycle: u16, values: &[u16], active: &[u16], counts: &[u16], columns: Columns) {
+pub fn print_row(
+    out: Stdout,
+    cycle: u16,
+    values: &[u16],
+    active: &[u16],
+    counts: &[u16],
+    columns: Columns,
+) {
     let line = Line::new().word_to(VALUES_AT, cycle);
-    print_state(values, active, counts, columns, line);
+    print_state(out, values, active, counts, columns, line);
 }
 
 // The state after the last cycle.
-pub fn print_last_row(values: &[u16], active: &[u16], counts: &[u16], columns: Columns) {
+pub fn print_last_row(
+    out: Stdout,
+    values: &[u16],
+    active: &[u16],
+    counts: &[u16],
+    columns: Columns,
+) {
     let line = Line::new().put(b"after");
-    print_state(values, active, counts, columns, line);
+    print_state(out, values, active, counts, columns, line);
 }
 
 // ---- the head of the table
@@ -258,20 +281,20 @@ fn put_names_of_line(vars: usize, j: usize, columns: Columns, line: Line) -> Lin
     put_names(first, least(vars, first + least(columns.values, 8)), line)
 }
 
-fn print_further_names(vars: usize, columns: Columns, count: usize) {
+fn print_further_names(out: Stdout, vars: usize, columns: Columns, count: usize) {
     let mut j = 1;
     while j < count {
-        put_names_of_line(vars, j, columns, Line::new()).end();
+        put_names_of_line(vars, j, columns, Line::new()).end(out);
         j += 1;
     }
 }
 
-pub fn print_head(vars: usize, columns: Columns) {
+pub fn print_head(out: Stdout, vars: usize, columns: Columns) {
     put_names_of_line(vars, 0, columns, Line::new().put(b"cycle"))
         .pad_to(columns.active_at)
         .put(b"active")
         .pad_to(columns.threads_at)
         .put(b"threads")
-        .end();
-    print_further_names(vars, columns, lines_for(vars, columns.values));
+        .end(out);
+    print_further_names(out, vars, columns, lines_for(vars, columns.values));
 }
