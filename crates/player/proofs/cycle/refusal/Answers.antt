@@ -1,0 +1,71 @@
+-- `refusal` crosses the other entries out as far as it can, and marks again all that are crossed out.
+use mathlib.Core.Path.{◌≡◌, sym, ap, ◌∙◌}
+use mathlib.Core.List.{List}
+use Prim.Native.Nat.{ℕ, ◌+◌, ◌≤◌}
+use native.Mathlib.Omega.{arith}
+use lib.ListN.{length, take, drop}
+use borrow.Author.Tests.{lt-ltb, le-ltb}
+use Rattle.player.specs.Entries.{crossable, set_all, CrossedOut}
+use Rattle.player.proofs.PartLaws.{part_from}
+use Rattle.player.proofs.EntryLaws.{set_all-more, crossable_most, part_length, part_inside, crossed_back}
+use Rattle.player.proofs.cycle.refusal.Goals as goal
+
+-- the entries before `passed` are crossed out of the marks that are lent, and `more` of the rest are crossed out now
+module _ {entries marks lent : List ℕ} {passed more : ℕ} (h : CrossedOut entries marks passed lent)
+    (told : more ≡ crossable lent (drop passed entries)) where
+  all : passed + more ≡ crossable marks entries
+  all = ap (λ (n : ℕ). passed + n) told ∙ sym h.rest
+
+  most : passed + more ≤ length entries
+  most = let u = all in let v = crossable_most marks entries in omega arith
+
+  crossed_now : {new : List ℕ} → new ≡ set_all 0 lent (take more (drop passed entries))
+      → new ≡ set_all 0 marks (take (passed + more) entries)
+  crossed_now e =
+      e ∙ ap (λ (m : List ℕ). set_all 0 m (take more (drop passed entries))) h.right
+      ∙ set_all-more 0 marks entries passed more
+
+  -- the marks are as they were
+  back : {new again : List ℕ} → new ≡ set_all 0 lent (take more (drop passed entries))
+      → again ≡ set_all 1 new (take (passed + more) entries) → again ≡ marks
+  back e a =
+      a ∙ ap (λ (m : List ℕ). set_all 1 m (take (passed + more) entries)) (crossed_now e)
+      ∙ crossed_back marks entries (passed + more) all
+
+pub overflow_add-crossed : goal.overflow_add-crossed
+overflow_add-crossed c =
+    let (marks, h) = c.requires in
+    let fits = most h (rw (part_from c.args.entries.now c.args.passed) at c.cross_out.ensures.value) in
+    omega arith
+
+pub slice_bounds-mark_again-end : goal.slice_bounds-mark_again-end
+slice_bounds-mark_again-end c =
+    let (marks, h) = c.requires in
+    part_length marks c.args.entries.now (c.args.passed + c.cross_out.result)
+    (all h (rw (part_from c.args.entries.now c.args.passed) at c.cross_out.ensures.value))
+
+pub mark_again-requires : goal.mark_again-requires
+mark_again-requires c =
+    let (marks, h) = c.requires in
+    let told = rw (part_from c.args.entries.now c.args.passed) at c.cross_out.ensures.value in
+    let same = c.cross_out.auto.marks in
+    let kept = h.same_length in
+    λ k l.
+    let inside = part_inside marks c.args.entries.now (c.args.passed + c.cross_out.result) (all h told) k l in
+    omega arith
+
+pub returns-then-crossed-entries : goal.returns-then-crossed-entries
+returns-then-crossed-entries c = λ marks h.
+    let entries = c.args.entries.now in
+    let told = rw (part_from entries c.args.passed) at c.cross_out.ensures in
+    let same = all h told.value in
+    (back h told.value told.marks_after c.mark_again.ensures,
+     sym (rw (lt-ltb (crossable marks entries) (length entries) (omega arith))))
+
+pub returns-else-crossed-entries : goal.returns-else-crossed-entries
+returns-else-crossed-entries c = λ marks h.
+    let entries = c.args.entries.now in
+    let told = rw (part_from entries c.args.passed) at c.cross_out.ensures in
+    let same = all h told.value in
+    (back h told.value told.marks_after c.mark_again.ensures,
+     sym (rw (le-ltb (crossable marks entries) (length entries) (omega arith))))
