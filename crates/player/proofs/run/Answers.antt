@@ -34,7 +34,7 @@ well_formed-requires c = let program : Program =
     let state : State = state_of c.args.values.now c.args.marks.now c.args.counts.now in
     let checked : check_number program ≡ 0 = sym c.check-checked.ensures.right_number ∙ c.if-checked-ne0.false in
     let fitting : lengths_ok program state ≡ true = sym c.lengths_fit.ensures ∙ c.if-not-lengths_fit.false in
-            let ok = checked in record { lists_fit = accepted_lists program state ok fitting; widths_len = accepted_widths program state ok fitting }
+    let ok = checked in record { lists_fit = accepted_lists program state ok fitting; widths_len = accepted_widths program state ok fitting }
 
 pub returns-then-not-well_formed : goal.returns-then-not-well_formed
 unfolding lengths_ok
@@ -43,7 +43,7 @@ returns-then-not-well_formed c = let program : Program =
     let state : State = state_of c.args.values.now c.args.marks.now c.args.counts.now in
     let checked : check_number program ≡ 0 = sym c.check-checked.ensures.right_number ∙ c.if-checked-ne0.false in
     let fitting : lengths_ok program state ≡ true = sym c.lengths_fit.ensures ∙ c.if-not-lengths_fit.false in
-        let a = c.args in
+    let a = c.args in
     answer_6 checked fitting
     (sym (c.well_formed-2.ensures a.exprs.now a.vars a.chans) ∙ c.if-not-well_formed.true)
 
@@ -56,7 +56,7 @@ work_cycles-requires c = let program : Program =
     let checked : check_number program ≡ 0 = sym c.check-checked.ensures.right_number ∙ c.if-checked-ne0.false in
     let fitting : lengths_ok program state ≡ true = sym c.lengths_fit.ensures ∙ c.if-not-lengths_fit.false in
     let runnable : Runnable program state =
-        let a = c.args in
+    let a = c.args in
     record {
       accepted = checked;
       ready = record {
@@ -65,7 +65,7 @@ work_cycles-requires c = let program : Program =
             ∙ c.if-not-well_formed.false;
       };
     } in
-        let a = c.args in
+    let a = c.args in
     (a.vars, a.chans, runnable)
 
 pub returns : goal.returns
@@ -76,7 +76,7 @@ returns c = let program : Program =
     let checked : check_number program ≡ 0 = sym c.check-checked.ensures.right_number ∙ c.if-checked-ne0.false in
     let fitting : lengths_ok program state ≡ true = sym c.lengths_fit.ensures ∙ c.if-not-lengths_fit.false in
     let runnable : Runnable program state =
-        let a = c.args in
+    let a = c.args in
     record {
       accepted = checked;
       ready = record {
@@ -85,5 +85,5 @@ returns c = let program : Program =
             ∙ c.if-not-well_formed.false;
       };
     } in
-            let a = c.args in
+    let a = c.args in
     c.work_cycles.ensures a.vars a.chans runnable

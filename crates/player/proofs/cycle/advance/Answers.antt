@@ -9,7 +9,7 @@ use Rattle.player.proofs.cycle.advance.Goals as goal
 
 pub store-requires : goal.store-requires
 store-requires c =
-        let a = c.args in
+    let a = c.args in
     (a.exprs.now, a.nodes.now, c.requires.by_index.0, a.counts.now, a.entries.now, c.requires.by_index.1)
 
 -- what the caller knows to be started, by the marks before the cycle
@@ -25,7 +25,7 @@ visit_all-requires c =
     → StoreAnswer x values-after work-after claims-after = λ marks x.
     let a = c.args in
     c.store.ensures a.exprs.now a.nodes.now marks a.counts.now a.entries.now x in
-        let x = c.requires.by_index.1 in
+    let x = c.requires.by_index.1 in
     let s = kept-stores c.requires.by_index.0 x in record { by_index = (values-after, walking x s c.requires.marks_value); climbing = ((cycle_of x.from x.active, s.paired), climbing x s) }
 
 pub returns-then-work-eq0 : goal.returns-then-work-eq0
@@ -46,7 +46,7 @@ returns-then-work-eq0 c =
     let s = kept-stores marks x in
     c.visit_all.ensures values-after c.args.values.now c.args.counts.now
     (cycle_of x.from x.active) s.paired (walking x s c.requires.marks_value) in
-        λ marks x. advanced x (kept-stores marks x) c.requires.marks_value (walks marks x) c.if-work-eq0.true
+    λ marks x. advanced x (kept-stores marks x) c.requires.marks_value (walks marks x) c.if-work-eq0.true
 
 pub restore_all-requires : goal.restore_all-requires
 restore_all-requires c =
@@ -60,7 +60,7 @@ restore_all-requires c =
     → StoreAnswer x values-after work-after claims-after = λ marks x.
     let a = c.args in
     c.store.ensures a.exprs.now a.nodes.now marks a.counts.now a.entries.now x in
-        (kept-stores c.requires.by_index.0 c.requires.by_index.1).fit
+    (kept-stores c.requires.by_index.0 c.requires.by_index.1).fit
 
 pub undo_walks-requires : goal.undo_walks-requires
 undo_walks-requires c =
@@ -80,7 +80,7 @@ undo_walks-requires c =
     let s = kept-stores marks x in
     c.visit_all.ensures values-after c.args.values.now c.args.counts.now
     (cycle_of x.from x.active) s.paired (walking x s c.requires.marks_value) in
-        let x = c.requires.by_index.1 in
+    let x = c.requires.by_index.1 in
     let stores = kept-stores c.requires.by_index.0 x in
     let w = walks c.requires.by_index.0 x in record { lists_fit = lists_fit x stores c.requires.marks_value w; by_index = entries_fit x stores c.requires.marks_value w }
 
@@ -102,7 +102,7 @@ returns c =
     let s = kept-stores marks x in
     c.visit_all.ensures values-after c.args.values.now c.args.counts.now
     (cycle_of x.from x.active) s.paired (walking x s c.requires.marks_value) in
-                    λ marks x.
+    λ marks x.
     let stores = kept-stores marks x in
     let clear = c.requires.marks_value in
     let w = walks marks x in

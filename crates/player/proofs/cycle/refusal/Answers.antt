@@ -58,14 +58,16 @@ pub returns-then-crossed-entries : goal.returns-then-crossed-entries
 returns-then-crossed-entries c = λ marks h.
     let entries = c.args.entries.now in
     let told = rw (part_from entries c.args.passed) at c.cross_out.ensures in
-    let same = all h told.value in
-    (back h told.value told.marks_after c.mark_again.ensures,
-     sym (rw (lt-ltb (crossable marks entries) (length entries) (omega arith))))
+    let same = all h told.value in (
+      back h told.value told.marks_after c.mark_again.ensures,
+      sym (rw (lt-ltb (crossable marks entries) (length entries) (omega arith))),
+    )
 
 pub returns-else-crossed-entries : goal.returns-else-crossed-entries
 returns-else-crossed-entries c = λ marks h.
     let entries = c.args.entries.now in
     let told = rw (part_from entries c.args.passed) at c.cross_out.ensures in
-    let same = all h told.value in
-    (back h told.value told.marks_after c.mark_again.ensures,
-     sym (rw (le-ltb (crossable marks entries) (length entries) (omega arith))))
+    let same = all h told.value in (
+      back h told.value told.marks_after c.mark_again.ensures,
+      sym (rw (le-ltb (crossable marks entries) (length entries) (omega arith))),
+    )

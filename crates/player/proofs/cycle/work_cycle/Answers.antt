@@ -19,7 +19,7 @@ returns-then-book-m c =
     let program : List ℕ → ℕ → ℕ → Program = λ widths vars chans. program_of c.args.exprs.now c.args.nodes.now widths vars chans in
     let state : State = state_of c.args.values.now c.args.marks.now c.args.counts.now in
     let counted : c.tally-m.result ≡ mark_count c.args.marks.now = c.tally-m.ensures ∙ c.requires.by_index.4.tally in
-        λ widths vars chans r carried.
+    λ widths vars chans r carried.
     worked_short (program widths vars chans) state c.args.book.now counted
     (omega arith)
 
@@ -38,7 +38,7 @@ ask-number-requires c =
     let from : (widths : List ℕ) (vars chans : ℕ) → Runnable (program widths vars chans) state
     → CycleFrom c.args.exprs.now c.args.nodes.now c.args.values.now c.args.marks.now
     c.args.counts.now (take c.tally-m.result c.args.book.now) = λ widths vars chans r. cycle_from c.args.book.now r counted enough in
-            let (widths, vars, chans, r, carried) = c.requires.by_index in record { by_index = (c.args.values.now, c.args.counts.now, from widths vars chans r, carried); fresh = c.requires.fresh }
+    let (widths, vars, chans, r, carried) = c.requires.by_index in record { by_index = (c.args.values.now, c.args.counts.now, from widths vars chans r, carried); fresh = c.requires.fresh }
 
 pub returns-then-number-ne0 : goal.returns-then-number-ne0
 returns-then-number-ne0 c =
@@ -57,7 +57,7 @@ returns-then-number-ne0 c =
     c.ask-number.new.marks c.ask-number.new.work c.ask-number.new.claims = λ widths vars chans r carried.
     c.ask-number.ensures c.args.values.now c.args.counts.now (from widths vars chans r)
     carried in
-            λ widths vars chans r carried.
+    λ widths vars chans r carried.
     worked_refused (program widths vars chans) state c.args.book.now
     counted (from widths vars chans r) refl (asked widths vars chans r carried) c.if-number-ne0.true
 
@@ -78,7 +78,7 @@ advance-requires c =
     c.ask-number.new.marks c.ask-number.new.work c.ask-number.new.claims = λ widths vars chans r carried.
     c.ask-number.ensures c.args.values.now c.args.counts.now (from widths vars chans r)
     carried in
-            let none = c.if-number-ne0.false in
+    let none = c.if-number-ne0.false in
     let (widths, vars, chans, r, carried) = c.requires.by_index in
     let x = from widths vars chans r in
     let answer = asked widths vars chans r carried in record { by_index = (c.args.marks.now, answer.started none); marks_value = answer.cleared none ∙ ap (λ (n : ℕ). replicate n 0) x.fit.marks }
@@ -100,8 +100,8 @@ returns c =
     c.ask-number.new.marks c.ask-number.new.work c.ask-number.new.claims = λ widths vars chans r carried.
     c.ask-number.ensures c.args.values.now c.args.counts.now (from widths vars chans r)
     carried in
-            let none = c.if-number-ne0.false in
-        λ widths vars chans r carried.
+    let none = c.if-number-ne0.false in
+    λ widths vars chans r carried.
     let P = program widths vars chans in
     let x = from widths vars chans r in
     let answer = asked widths vars chans r carried in

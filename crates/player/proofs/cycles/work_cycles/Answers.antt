@@ -29,7 +29,7 @@ returns-then-cycles-eq0 c =
 
 pub fill-requires : goal.fill-requires
 fill-requires c =
-        let P = program_of c.args.exprs.now c.args.nodes.now c.args.widths.now c.requires.0 c.requires.1 in
+    let P = program_of c.args.exprs.now c.args.nodes.now c.args.widths.now c.requires.0 c.requires.1 in
     let a = accepted P c.requires.2.accepted in
     let sizes = a.sizes in
     let fit = fits_lengths P _ c.requires.2.ready.fit in record { nodes_bound = (sizes.nodes_fit, omega (arith, fit.values, sizes.variables_fit), omega (arith, fit.marks, sizes.nodes_fit)); widths_len_bound = (omega (arith, a.widths_fit.as_many, sizes.variables_fit), each_width P a.widths_fit); work_value = refl }
@@ -40,13 +40,13 @@ loop-worked-init c = (λ vars chans r. none_worked r, zero-le, c.fill.ensures _,
 pub returns-then-m-eq0 : goal.returns-then-m-eq0
 returns-then-m-eq0 c =
     let counted : c.tally-m.result ≡ mark_count c.loop-worked.marks = c.tally-m.ensures ∙ c.loop-worked.invariant.2.tally in
-        let stop = c.stopped-then-m-eq0.ensures in
+    let stop = c.stopped-then-m-eq0.ensures in
     λ vars chans r. rw (stop.0, stop.1, stop.2)
     (no_mark r (c.loop-worked.invariant.0 vars chans r) counted c.if-m-eq0.true)
 
 pub work_cycle-number-requires : goal.work_cycle-number-requires
 work_cycle-number-requires c =
-        let l = c.loop-worked in
+    let l = c.loop-worked in
     let r = c.requires in
     let a = c.args in record { by_index = (a.widths.now, r.0, r.1, (l.invariant.0 r.0 r.1 r.2).runnable, l.invariant.2); fresh = fresh_next l.invariant.3 }
 
@@ -54,7 +54,7 @@ pub returns-then-number-ne0 : goal.returns-then-number-ne0
 returns-then-number-ne0 c =
     let counted : c.tally-m.result ≡ mark_count c.loop-worked.marks = c.tally-m.ensures ∙ c.loop-worked.invariant.2.tally in
     let left : State =
-        let lists = c.work_cycle-number.new in state_of lists.values lists.marks lists.counts in
+    let lists = c.work_cycle-number.new in state_of lists.values lists.marks lists.counts in
     let program : ℕ → ℕ → Program = λ vars chans.
     let a = c.args in
     program_of a.exprs.now a.nodes.now a.widths.now vars chans in let Asked : ℕ → ℕ → Type 0 = λ vars chans.
@@ -69,7 +69,7 @@ returns-then-number-ne0 c =
     let a = c.args in
     rw (part_from a.book.now l.read) at
     (c.work_cycle-number.ensures a.widths.now vars chans (l.invariant.0 vars chans r).runnable l.invariant.2) in
-            let stop = c.stopped-then-number-ne0.ensures in
+    let stop = c.stopped-then-number-ne0.ensures in
     λ vars chans r. rw (stop.0, stop.1, stop.2)
     (one_refused r (c.loop-worked.invariant.0 vars chans r) counted c.loop-worked-test.true
     c.if-m-eq0.false
@@ -80,7 +80,7 @@ pub overflow_add-read : goal.overflow_add-read
 overflow_add-read c =
     let counted : c.tally-m.result ≡ mark_count c.loop-worked.marks = c.tally-m.ensures ∙ c.loop-worked.invariant.2.tally in
     let left : State =
-        let lists = c.work_cycle-number.new in state_of lists.values lists.marks lists.counts in
+    let lists = c.work_cycle-number.new in state_of lists.values lists.marks lists.counts in
     let program : ℕ → ℕ → Program = λ vars chans.
     let a = c.args in
     program_of a.exprs.now a.nodes.now a.widths.now vars chans in let Asked : ℕ → ℕ → Type 0 = λ vars chans.
@@ -96,11 +96,11 @@ overflow_add-read c =
     rw (part_from a.book.now l.read) at
     (c.work_cycle-number.ensures a.widths.now vars chans (l.invariant.0 vars chans r).runnable l.invariant.2) in
     let next : c.work_cycle-number.result ≡ 0 → (vars chans : ℕ) → Asked vars chans
-    →     let l = c.loop-worked in
+    → let l = c.loop-worked in
     let a = c.args in
     Progress (program vars chans) a.cycles (state_of a.values.now a.marks.now a.counts.now)
     a.book.now left (l.worked + 1) (l.read + c.tally-m.result) = λ z vars chans r.
-        let l = c.loop-worked in
+    let l = c.loop-worked in
     one_worked r (l.invariant.0 vars chans r) counted c.loop-worked-test.true
     c.if-m-eq0.false
     (subst
@@ -108,19 +108,19 @@ overflow_add-read c =
     (drop l.read c.args.book.now) q left)
     z (worked-cycle vars chans r).answer) in
     let read-inside : c.loop-worked.read + c.tally-m.result ≤ length c.args.book.now =
-        let r = c.requires in
+    let r = c.requires in
     (next c.if-number-ne0.false r.0 r.1 r.2).inside in
-        omega (arith, read-inside)
+    omega (arith, read-inside)
 
 pub overflow_add-worked : goal.overflow_add-worked
 overflow_add-worked c =
-        omega (arith, c.loop-worked-test.true, c.ranges.cycles.fits)
+    omega (arith, c.loop-worked-test.true, c.ranges.cycles.fits)
 
 pub loop-worked-preserved : goal.loop-worked-preserved
 loop-worked-preserved c =
     let counted : c.tally-m.result ≡ mark_count c.loop-worked.marks = c.tally-m.ensures ∙ c.loop-worked.invariant.2.tally in
     let left : State =
-        let lists = c.work_cycle-number.new in state_of lists.values lists.marks lists.counts in
+    let lists = c.work_cycle-number.new in state_of lists.values lists.marks lists.counts in
     let program : ℕ → ℕ → Program = λ vars chans.
     let a = c.args in
     program_of a.exprs.now a.nodes.now a.widths.now vars chans in let Asked : ℕ → ℕ → Type 0 = λ vars chans.
@@ -136,11 +136,11 @@ loop-worked-preserved c =
     rw (part_from a.book.now l.read) at
     (c.work_cycle-number.ensures a.widths.now vars chans (l.invariant.0 vars chans r).runnable l.invariant.2) in
     let next : c.work_cycle-number.result ≡ 0 → (vars chans : ℕ) → Asked vars chans
-    →     let l = c.loop-worked in
+    → let l = c.loop-worked in
     let a = c.args in
     Progress (program vars chans) a.cycles (state_of a.values.now a.marks.now a.counts.now)
     a.book.now left (l.worked + 1) (l.read + c.tally-m.result) = λ z vars chans r.
-        let l = c.loop-worked in
+    let l = c.loop-worked in
     one_worked r (l.invariant.0 vars chans r) counted c.loop-worked-test.true
     c.if-m-eq0.false
     (subst
@@ -148,9 +148,9 @@ loop-worked-preserved c =
     (drop l.read c.args.book.now) q left)
     z (worked-cycle vars chans r).answer) in
     let read-inside : c.loop-worked.read + c.tally-m.result ≤ length c.args.book.now =
-        let r = c.requires in
+    let r = c.requires in
     (next c.if-number-ne0.false r.0 r.1 r.2).inside in
-            let r = c.requires in
+    let r = c.requires in
     let done = worked-cycle r.0 r.1 r.2 in (
       next c.if-number-ne0.false,
       read-inside,
@@ -163,5 +163,5 @@ loop-worked-preserved c =
 
 pub returns : goal.returns
 returns c =
-        let stop = c.stopped-2.ensures in
+    let stop = c.stopped-2.ensures in
     λ vars chans r. rw (stop.0, stop.1, stop.2) (all-worked r (c.loop-worked.invariant.0 vars chans r) c.loop-worked-test.false)

@@ -35,9 +35,9 @@ enter_node-requires c = let walkable : Walkable c.args.exprs.now c.args.nodes.no
     take-zeros _ 1024 inside ∙ ap (λ (n : ℕ). replicate {A = ℕ} n 0) c.requires.marks_len.0 in
     let walking : Walking c.args.exprs.now c.args.nodes.now c.args.values.now front front
     c.fill_values.new.work =
-        let filled = c.fill_values.ensures in
+    let filled = c.fill_values.ensures in
     rw blank (root_walking walkable (filled.by_index c.args.exprs.now) filled.kept_from) in
-        let (_, _, accepted) = c.requires.by_index in record { by_index = (c.args.values.now, walking); i_bound = accepted.sizes.some_node }
+    let (_, _, accepted) = c.requires.by_index in record { by_index = (c.args.values.now, walking); i_bound = accepted.sizes.some_node }
 
 -- ---- node 0 is entered
 -- the marks and the counts that came back in the scratch lists, and `work`
@@ -55,14 +55,14 @@ returns-then-work-ne0 c widths vars chans =
     take-zeros _ 1024 inside ∙ ap (λ (n : ℕ). replicate {A = ℕ} n 0) c.requires.marks_len.0 in
     let walking : Walking c.args.exprs.now c.args.nodes.now c.args.values.now front front
     c.fill_values.new.work =
-        let filled = c.fill_values.ensures in
+    let filled = c.fill_values.ensures in
     rw blank (root_walking walkable (filled.by_index c.args.exprs.now) filled.kept_from) in
     let new_marks : List ℕ = c.enter_node.new.marks in
     let new_counts : List ℕ = c.enter_node.new.counts in
     let new_work : List ℕ = c.enter_node.new.work in
-    let walked : (widths : List ℕ) (vars chans : ℕ) →     root_walk (program_of c.args.exprs.now c.args.nodes.now widths vars chans) c.args.values.now
+    let walked : (widths : List ℕ) (vars chans : ℕ) → root_walk (program_of c.args.exprs.now c.args.nodes.now widths vars chans) c.args.values.now
     ≡ walk_in new_marks new_counts new_work = λ widths vars chans.
-            let (_, _, accepted) = c.requires.by_index in
+    let (_, _, accepted) = c.requires.by_index in
     let filled = c.fill_values in
     root_walked c.args.exprs.now c.args.nodes.now widths c.args.values.now filled.new.work vars
     chans c.enter_node.result new_marks new_counts new_work accepted.sizes.some_node
@@ -134,7 +134,7 @@ copy_words-requires c = let walkable : Walkable c.args.exprs.now c.args.nodes.no
     let inside : length c.args.marks.now ≤ 1024 = omega (arith, c.requires.marks_len.0, walkable.nodes_fit) in
     let new_counts : List ℕ = c.enter_node.new.counts in
     let counts-back : Returned (replicate 1024 0) new_counts (length c.args.marks.now) = returned _ new_counts _ inside c.enter_node.auto.counts in
-        let fit = c.requires.marks_len in
+    let fit = c.requires.marks_len in
     sym counts-back.back_length ∙ fit.0 ∙ sym fit.1
 
 pub returns : goal.returns
@@ -149,20 +149,20 @@ returns c widths vars chans = let walkable : Walkable c.args.exprs.now c.args.no
     take-zeros _ 1024 inside ∙ ap (λ (n : ℕ). replicate {A = ℕ} n 0) c.requires.marks_len.0 in
     let walking : Walking c.args.exprs.now c.args.nodes.now c.args.values.now front front
     c.fill_values.new.work =
-        let filled = c.fill_values.ensures in
+    let filled = c.fill_values.ensures in
     rw blank (root_walking walkable (filled.by_index c.args.exprs.now) filled.kept_from) in
     let new_marks : List ℕ = c.enter_node.new.marks in
     let new_counts : List ℕ = c.enter_node.new.counts in
     let new_work : List ℕ = c.enter_node.new.work in
     let marks-back : Returned (replicate 1024 0) new_marks (length c.args.marks.now) = returned _ new_marks _ inside c.enter_node.auto.marks in
     let counts-back : Returned (replicate 1024 0) new_counts (length c.args.marks.now) = returned _ new_counts _ inside c.enter_node.auto.counts in
-    let walked : (widths : List ℕ) (vars chans : ℕ) →     root_walk (program_of c.args.exprs.now c.args.nodes.now widths vars chans) c.args.values.now
+    let walked : (widths : List ℕ) (vars chans : ℕ) → root_walk (program_of c.args.exprs.now c.args.nodes.now widths vars chans) c.args.values.now
     ≡ walk_in new_marks new_counts new_work = λ widths vars chans.
-            let (_, _, accepted) = c.requires.by_index in
+    let (_, _, accepted) = c.requires.by_index in
     let filled = c.fill_values in
     root_walked c.args.exprs.now c.args.nodes.now widths c.args.values.now filled.new.work vars
     chans c.enter_node.result new_marks new_counts new_work accepted.sizes.some_node
     filled.ensures.kept_from (rw blank at (c.enter_node.ensures c.args.values.now walking)) in
-                let marks = c.copy_bytes.ensures ∙ marks-back.back in
+    let marks = c.copy_bytes.ensures ∙ marks-back.back in
     let counts = c.copy_words.ensures ∙ counts-back.back in
     rw (marks, counts) (both_written new_work (walked widths vars chans) _ _ c.if-work-ne0.false)

@@ -62,7 +62,7 @@ loop-k-preserved c =
     let a = c.args in
     let more = c.loop-k-test.true in
     elim c.if-stores.branch [
-      then-stores+else-not-work_right_side w ↦ (
+      | then-stores+else-not-work_right_side w ↦ (
         omega arith,
         λ values x m.
             let h = l.invariant.1 values x m in

@@ -28,7 +28,7 @@ unfolding node_well_formed
 returns-in-3-to-5 c =
     let leaf = kind_leaf c.args.kind in
     elim c.in-3-to-5-1.branch [
-      in-8-1 w ↦ rw (leaf (inl (omega arith))).1
+      | in-8-1 w ↦ rw (leaf (inl (omega arith))).1
       | in_default+else-kind-lt1+then-kind-lt6 w ↦ rw (leaf (inr (omega arith))).1
     ]
 
@@ -39,6 +39,6 @@ returns-in-1 c =
     let F : ℕ → Type 0 = λ k. eqb a.mark 0 && eqb a.count 0 && leb a.live 1
     ≡ node_well_formed (kind_of k) a.mark a.count a.live in
     elim c.in-1-1.branch [
-      in-1-1 w ↦ (let e : a.kind ≡ 1 = omega arith in rw e)
+      | in-1-1 w ↦ (let e : a.kind ≡ 1 = omega arith in rw e)
       | in_default+else-kind-lt1+else-kind-lt6+then-kind-lt8 w ↦ one_of_two F 6 a.kind (omega arith) (omega arith) refl refl
     ]
