@@ -1,5 +1,4 @@
 -- `copy_bytes` copies one element a turn; the laws are those of any copy from the front.
-use Prim.Native.Nat.{◌-◌}
 use Rattle.player.proofs.CopyLaws.{none_copied, one_copied, all-copied}
 use Rattle.player.proofs.copy.copy_bytes.Goals as goal
 

@@ -2,7 +2,7 @@
 -- from the lists as they are. Besides, `work` has what the next cycle asks, no stamp is above the cycles worked, and the
 -- lists have kept their lengths.
 use mathlib.Core.Path.{◌≡◌, refl, ◌∙◌, subst}
-use Prim.Native.Nat.{ℕ, ◌+◌, ◌-◌, ◌≤◌, zero-le}
+use Prim.Native.Nat.{ℕ, ◌+◌, ◌≤◌, zero-le}
 use native.Mathlib.Omega.{arith}
 use lib.ListN.{length, drop, set}
 use borrow.Author.Rules.{rules}

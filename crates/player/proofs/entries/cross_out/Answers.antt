@@ -1,6 +1,5 @@
 -- `cross_out` crosses one entry out a turn: the first k are crossed out.
 use mathlib.Core.Path.{sym, ◌∙◌}
-use Prim.Native.Nat.{◌-◌}
 use borrow.Author.Tests.{not-true, not-false}
 use Rattle.semantics.proofs.Lists.ActiveLaws.{marked_below}
 use Rattle.player.proofs.EntryLaws.{crossed_none, crossed_next, crossed_most, crossed-all}

@@ -1,5 +1,4 @@
 -- `mark_again` marks one entry a turn: the invariant is that the first k are marked.
-use Prim.Native.Nat.{◌-◌}
 use native.Mathlib.Omega.{arith}
 use Rattle.player.proofs.EntryLaws.{set-none, set-one, set-whole}
 use Rattle.player.proofs.entries.mark_again.Goals as goal

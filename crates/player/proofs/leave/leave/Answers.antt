@@ -1,5 +1,4 @@
 -- `leave` climbs one turn at a time.
-use Prim.Native.Nat.{◌-◌}
 use native.Mathlib.Omega.{arith}
 use Rattle.player.proofs.UnderwayLaws.{underway_first, underway_climbing, climb_next, climb_last}
 use Rattle.player.proofs.leave.leave.Goals as goal

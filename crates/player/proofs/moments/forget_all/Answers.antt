@@ -1,5 +1,5 @@
 -- `forget_all` clears one moment a turn.
-use Prim.Native.Nat.{ℕ, ◌-◌}
+use Prim.Native.Nat.{ℕ}
 use mathlib.Core.Path.{◌≡◌, subst}
 use native.Mathlib.Omega.{arith}
 use Rattle.player.specs.Work.{Forgotten}

@@ -1,7 +1,7 @@
 -- `first_unworked` has passed expressions that are worked at the present moment.
 use mathlib.Core.Path.{◌≡◌, subst}
 use mathlib.Core.Logic.{inl, inr}
-use Prim.Native.Nat.{ℕ, ◌+◌, ◌-◌}
+use Prim.Native.Nat.{ℕ, ◌+◌}
 use native.Mathlib.Omega.{arith}
 use lib.ListN.{get_or}
 use Rattle.semantics.proofs.Lists.Logic.{lt_or_le}

@@ -1,6 +1,6 @@
 -- `note_from` notes one expression a turn.
 use mathlib.Core.Path.{◌≡◌}
-use Prim.Native.Nat.{◌+◌, ◌-◌}
+use Prim.Native.Nat.{◌+◌}
 use native.Mathlib.Omega.{arith}
 use Rattle.player.proofs.MomentLaws.{noted_none, noted_one}
 use Rattle.player.proofs.passes.note_from.Goals as goal

@@ -1,6 +1,6 @@
 -- `fill_masks` writes the mask of one variable a turn.
 use mathlib.Core.Path.{◌≡◌, subst}
-use Prim.Native.Nat.{ℕ, ◌-◌}
+use Prim.Native.Nat.{ℕ}
 use native.Mathlib.Omega.{arith}
 use lib.ListN.{length}
 use Rattle.player.specs.Work.{MasksTo}

@@ -1,5 +1,5 @@
 -- `fill_parents` writes the parent of one node a turn.
-use Prim.Native.Nat.{ℕ, ◌-◌}
+use Prim.Native.Nat.{ℕ}
 use mathlib.Core.Path.{◌≡◌, subst}
 use native.Mathlib.Omega.{arith}
 use Rattle.semantics.specs.Program.{node_count}

@@ -1,5 +1,4 @@
 -- `fill_values` writes one value a turn over zeros, and then the first moment.
-use Prim.Native.Nat.{◌-◌}
 use mathlib.Core.Path.{◌≡◌, subst}
 use native.Mathlib.Omega.{arith}
 use Prim.Native.Nat.{ℕ}

@@ -1,6 +1,6 @@
 -- `restore_all` has the stores from n on taken back.
 use mathlib.Core.Path.{◌≡◌}
-use Prim.Native.Nat.{◌-◌, ◌≤◌}
+use Prim.Native.Nat.{◌≤◌}
 use lib.ListN.{length, get_or}
 use Rattle.player.specs.Stores.{taken_back}
 use Rattle.player.proofs.stores.restore_all.Given as goal

@@ -1,7 +1,6 @@
 -- `store_all` has the first n stores made.
 use mathlib.Core.Path.{ap}
 use mathlib.Core.Bool.{Bool, ◌||◌}
-use Prim.Native.Nat.{◌-◌}
 use native.Mathlib.Omega.{arith}
 use Rattle.player.proofs.StoredLaws.{stored_none, stored_target, stored_few, stored_more, stored-all}
 use Rattle.player.proofs.stores.store_all.Goals as goal

@@ -1,10 +1,8 @@
 -- `work_right_sides` has the first k entries done, which have n stores.
 use mathlib.Core.Path.{sym, ◌∙◌}
-use mathlib.Core.Logic.{⊎_elim}
-use Prim.Native.Nat.{◌-◌}
 use native.Mathlib.Omega.{arith}
 use borrow.Author.Rules.{rules}
-use borrow.Author.Tests.{not-true, not-false}
+use borrow.Author.Tests.{not-true}
 use Rattle.player.proofs.RightSideLaws.{storing_entry, storing_room}
 use Rattle.player.proofs.RightSideLaws.{right_none, right_next, right_skip, right_more, right_refused, right-all}
 use Rattle.std.proofs.lemmas.Bool.{not_from_false}

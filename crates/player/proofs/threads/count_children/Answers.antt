@@ -1,5 +1,4 @@
 -- `count_children` counts the children in turn: those counted and those from the next child on are all.
-use Prim.Native.Nat.{◌-◌}
 use native.Mathlib.Nat.{zero-add}
 use native.Mathlib.Numerals.{add-one}
 use native.Mathlib.Omega.{arith}

@@ -1,5 +1,4 @@
 -- `recount` counts one node a turn. The invariant: the nodes from i on are counted and are in the table.
-use Prim.Native.Nat.{◌-◌}
 use Rattle.player.proofs.UndoLaws.{Recounted}
 use Rattle.player.proofs.undo.recount.Given as goal
 

@@ -1,6 +1,5 @@
 -- `visit_all` has the visits of the entries from k on still to do.
 use mathlib.Core.List.{[]}
-use Prim.Native.Nat.{◌-◌}
 use native.Mathlib.Omega.{arith}
 use Rattle.semantics.specs.Cycle.{visit}
 use Rattle.player.specs.Begin.{state_of}

@@ -1,7 +1,7 @@
 -- `node_well_formed` is the test of one node: each arm of the `match` is one case of the decoded kind.
 use mathlib.Core.Path.{◌≡◌, refl}
 use mathlib.Core.Bool.{◌&&◌}
-use mathlib.Core.Logic.{inl, inr, ⊎_elim}
+use mathlib.Core.Logic.{inl, inr}
 use Prim.Native.Nat.{ℕ}
 use native.Mathlib.Omega.{arith}
 use lib.Dec.{eqb, leb}

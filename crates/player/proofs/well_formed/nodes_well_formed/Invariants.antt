@@ -1,5 +1,4 @@
 -- `nodes_well_formed` asks each node by itself. The invariant: the nodes from i on are right and are in the table.
-use Prim.Native.Nat.{◌-◌}
 use Rattle.player.proofs.LiveTableLaws.{Passed}
 use Rattle.player.proofs.well_formed.nodes_well_formed.Given as goal
 

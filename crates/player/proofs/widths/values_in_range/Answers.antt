@@ -1,5 +1,5 @@
 -- `values_in_range` stops at the first value above its variable's mask. The invariant: the values passed are in range.
-use Prim.Native.Nat.{◌-◌, zero-le}
+use Prim.Native.Nat.{zero-le}
 use native.Mathlib.Omega.{arith}
 use Rattle.player.proofs.MaskLaws.{one_in_range, too_wide, all-in_range}
 use Rattle.player.proofs.widths.values_in_range.Goals as goal
