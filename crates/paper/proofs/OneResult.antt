@@ -66,7 +66,8 @@ pub rules_writing : {P : Program} {values lent : List ℕ} {w : Writing} → Wri
 rules_writing g = λ i. record { number = g.right_number i; item = g.right_item i; buffer = g.right_buffer i }
 
 -- a word is made of four sizes
-word_of_sizes : (word : ℕ) {n e v c : ℕ} → nodes_in word ≡ n → exprs_in word ≡ e → vars_in word ≡ v → chans_in word ≡ c
+word_of_sizes : (word : ℕ) {n e v c : ℕ} → nodes_in word ≡ n → exprs_in word ≡ e → vars_in word ≡ v
+    → chans_in word ≡ c
     → word ≡ n + 65536 * (e + 65536 * (v + 65536 * c))
 word_of_sizes word n e v c =
     let upper : item_in (item_in word) ≡ word / 4294967296 = omega arith in

@@ -23,7 +23,8 @@ use Rattle.paper.specs.Sizes.{sizes_from, SizesAnswer}
 use Rattle.paper.proofs.WordLaws.{taken}
 
 -- four numbers are the rules' sizes
-pub sizes_answer_lem : (file : List ℕ) (n e v c : ℕ) → sizes_from n e v c ≡ sizes_answer file → SizesAnswer file n e v c
+pub sizes_answer_lem : (file : List ℕ) (n e v c : ℕ) → sizes_from n e v c ≡ sizes_answer file
+    → SizesAnswer file n e v c
 sizes_answer_lem file n e v c right = record {
   right_nodes = ap (λ (x : Sizes). x.nodes) right;
   right_exprs = ap (λ (x : Sizes). x.exprs) right;

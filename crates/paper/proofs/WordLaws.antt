@@ -24,7 +24,8 @@ take-one file from i list list₀ word within room copied right =
     let n = length-words file in
     let turn = paste-suc list₀ 0 words i 0 (omega arith) (omega arith) in
     rw (add-one i, copied, right, ← get_or-drop from (words_of file) i 0)
-    (subst (λ (k : ℕ). set (paste list₀ 0 words i) k (get_or words i 0) ≡ paste list₀ 0 words (suc i)) (zero-add i) turn)
+    (subst (λ (k : ℕ). set (paste list₀ 0 words i) k (get_or words i 0) ≡ paste list₀ 0 words (suc i))
+    (zero-add i) turn)
 
 -- all are taken: a buffer with a part of the file at its start
 pub taken : (words list : List ℕ) (n : ℕ) → n ≤ length words → paste list 0 words n ≡ filled (take n words) list

@@ -46,7 +46,8 @@ module _ {exprs nodes values marks counts entries before claims₀ : List ℕ}
 
   -- ---- the stores
 
-  module _ {changed : Bool} {values' work claims : List ℕ} (s : Stored values before claims₀ changed values' work claims)
+  module _ {changed : Bool} {values' work claims : List ℕ}
+      (s : Stored values before claims₀ changed values' work claims)
     where
       right : values' ≡ new_values (program_from from) (state_of values marks counts) entries
       right =
@@ -70,7 +71,8 @@ module _ {exprs nodes values marks counts entries before claims₀ : List ℕ}
       stamp = s.exchanged.end 3584 (omega arith)
 
       -- with what is known of the expressions
-      answer : {work' : List ℕ} → Memo exprs values' work' → KeptFrom 2305 before work' → StoreAnswer x values' work' claims
+      answer : {work' : List ℕ} → Memo exprs values' work' → KeptFrom 2305 before work'
+          → StoreAnswer x values' work' claims
       answer memo kept = record {
         right = right;
         memo = memo;
@@ -146,7 +148,8 @@ module _ {exprs nodes values marks counts entries before claims₀ : List ℕ}
         (foldl (visit (program_from from) (state_of values marks counts) (holds_in exprs values'))
         (walk_in marks₀ counts (set work 2305 0)) entries)
 
-    module _ {marks₀ marks' counts' work' : List ℕ} (clear : marks₀ ≡ cleared) (w : Walked marks₀ marks' counts' work')
+    module _ {marks₀ marks' counts' work' : List ℕ} (clear : marks₀ ≡ cleared)
+        (w : Walked marks₀ marks' counts' work')
       where
         after : walk_after (program_from from) (state_of values marks counts) entries ≡ walk_in marks' counts' work'
         unfolding walked
@@ -201,10 +204,12 @@ module _ {exprs nodes values marks counts entries before claims₀ : List ℕ}
             let fit = from.fit.marks in
             omega arith
 
-        pub marks_back : {marks'' : List ℕ} → marks'' ≡ set_all 1 (replicate (length marks') 0) entries → marks'' ≡ marks
+        pub marks_back : {marks'' : List ℕ} → marks'' ≡ set_all 1 (replicate (length marks') 0) entries
+            → marks'' ≡ marks
         marks_back e =
             e ∙ ap (λ (n : ℕ). set_all 1 (replicate n 0) entries) (w.walking.marks_fit ∙ sym from.fit.marks)
-            ∙ all-marked marks entries x.active (formed_bits (program_from from) (state_of values marks counts) from.formed)
+            ∙ all-marked marks entries x.active
+            (formed_bits (program_from from) (state_of values marks counts) from.formed)
 
         pub counts_back : {marks'' counts'' : List ℕ} → marks'' ≡ marks → length counts'' ≡ length counts'
             → ((i : ℕ) → i < node_count nodes → get_or counts'' i 0 ≡ count_from nodes marks'' i) → counts'' ≡ counts
@@ -213,7 +218,8 @@ module _ {exprs nodes values marks counts entries before claims₀ : List ℕ}
             from.fit.counts counts'' (same ∙ w.walking.counts_fit)
             (λ i l. right i l ∙ ap (λ (ms : List ℕ). count_from nodes ms i) m)
 
-        pub taken_back_lem : get_or work' 2306 0 ≢ 0 → {values'' marks'' counts'' : List ℕ} → values'' ≡ values → marks'' ≡ marks
+        pub taken_back_lem : get_or work' 2306 0 ≢ 0 → {values'' marks'' counts'' : List ℕ} → values'' ≡ values
+            → marks'' ≡ marks
             → counts'' ≡ counts → AdvanceAnswer x 10 values'' marks'' counts'' work' claims
         taken_back_lem some v m c =
             let loop = looped ∙ ap not (ne_eqb (get_or work' 2306 0) 0 some) in

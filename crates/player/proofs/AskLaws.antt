@@ -24,7 +24,8 @@ module _ {exprs nodes values marks counts entries : List ℕ} (x : CycleFrom exp
 
     pub not_active : crossable marks entries < length entries → are_active marks entries ≡ false
     not_active l =
-        active_crossable marks entries x.as_many ∙ ne_eqb (crossable marks entries) (length entries) (λ e. omega arith)
+        active_crossable marks entries x.as_many
+        ∙ ne_eqb (crossable marks entries) (length entries) (λ e. omega arith)
 
     pub is_active : length entries ≤ crossable marks entries → are_active marks entries ≡ true
     is_active l =
@@ -36,7 +37,8 @@ module _ {exprs nodes values marks counts entries : List ℕ} (x : CycleFrom exp
         → set_all 0 marks (take r entries) ≡ replicate (length marks) 0
     cleared r e l =
         ap (set_all 0 marks) (take_all r entries l)
-        ∙ all-crossed marks entries (is_active (subst (λ (n : ℕ). length entries ≤ n) e l)) (formed_bits (program_from x) (state_of values marks counts) x.formed)
+        ∙ all-crossed marks entries (is_active (subst (λ (n : ℕ). length entries ≤ n) e l))
+        (formed_bits (program_from x) (state_of values marks counts) x.formed)
 
     -- and marked again
     pub marked_back : (r : ℕ) → r ≡ crossable marks entries → length entries ≤ r
@@ -68,7 +70,8 @@ module _ {exprs nodes values marks counts entries : List ℕ} (x : CycleFrom exp
       }
 
       module _ (active : are_active marks entries ≡ true) where
-        pub answer_eight : {marks' work claims : List ℕ} → channels_free (program_from x) marks ≡ false → marks' ≡ marks
+        pub answer_eight : {marks' work claims : List ℕ} → channels_free (program_from x) marks ≡ false
+            → marks' ≡ marks
             → AskAnswer x claims₀ 8 marks' work claims
         answer_eight taken same = record {
           asked = sym (rw (active, taken));

@@ -57,7 +57,8 @@ module _ (uses : ℕ → Bool) (key : ℕ → ℕ) (part : ℕ) where
       → Claimed uses key part before after e → Claims uses key part (entries ++ e ∷ []) after
   claims_last entries before after e h inside free made slot = record {
     rank = λ l. made slot l
-        ∙ ranked (wants uses key part slot e) refl l ∙ ap rank_of (sym (filter-last (wants uses key part slot) entries e));
+        ∙ ranked (wants uses key part slot e) refl l
+        ∙ ap rank_of (sym (filter-last (wants uses key part slot) entries e));
     single = subst (λ (xs : List ℕ). length xs ≤ 1) (sym (filter-last (wants uses key part slot) entries e))
         (single (wants uses key part slot e) refl);
   }
@@ -101,7 +102,8 @@ module _ (uses : ℕ → Bool) (key : ℕ → ℕ) (part : ℕ) where
           let one = some_rank old (λ r. eqb-false _ 0 busy ((h (key e)).rank (inside used) ∙ r)) in
           let more : length (wanting (key e) (e ∷ rest)) ≡ suc (length (wanting (key e) rest)) =
           length-filter (wants uses key part (key e)) e rest ∙ rw (used, eq-eqb (key e) (key e) refl) in
-          let all = ap length (filter-append (wants uses key part (key e)) entries (e ∷ rest)) ∙ length-append old _ in
+          let all =
+          ap length (filter-append (wants uses key part (key e)) entries (e ∷ rest)) ∙ length-append old _ in
           (used, omega arith)
       pick false used busy = absurd (true≢false busy)
 

@@ -74,7 +74,8 @@ set-whole {word} {start} {entries} {k} s l =
     s.right ∙ ap (λ (es : List ℕ). set_all word start es) (take_all k entries l)
 
 -- the next entries have the word too
-set_all-append : (word : ℕ) (marks es fs : List ℕ) → set_all word marks (es ++ fs) ≡ set_all word (set_all word marks es) fs
+set_all-append : (word : ℕ) (marks es fs : List ℕ)
+    → set_all word marks (es ++ fs) ≡ set_all word (set_all word marks es) fs
 set_all-append word marks [] fs = refl
 set_all-append word marks (e ∷ es) fs = set_all-append word (set marks e word) es fs
 
@@ -94,7 +95,8 @@ crossable_most marks (e ∷ es) =
 -- the entries from k on, by the first of them
 pub crossable_next : (marks entries : List ℕ) (k : ℕ) → k < length entries
     → crossable marks (drop k entries)
-    ≡ cond (marked marks (get_or entries k 0)) (suc (crossable (set marks (get_or entries k 0) 0) (drop (k + 1) entries))) 0
+    ≡ cond (marked marks (get_or entries k 0))
+    (suc (crossable (set marks (get_or entries k 0) 0) (drop (k + 1) entries))) 0
 unfolding crossable
 crossable_next marks entries k l = rw (add-one k, drop-cons entries k 0 l)
 
@@ -122,7 +124,8 @@ first_marked marks e es j l =
     elim (true_or_false (marked marks e)) [ inl h ↦ h | inr h ↦ absurd (omega (arith, rw h at l)) ]
 
 -- each entry that can be crossed out is a node's number
-pub crossable_below : (marks entries : List ℕ) (j : ℕ) → j < crossable marks entries → get_or entries j 0 < length marks
+pub crossable_below : (marks entries : List ℕ) (j : ℕ) → j < crossable marks entries
+    → get_or entries j 0 < length marks
 unfolding crossable
 crossable_below marks [] j l = absurd (omega arith)
 crossable_below marks (e ∷ es) zero l = marked_below marks e (first_marked marks e es 0 l)
@@ -241,7 +244,8 @@ module _ (marks entries : List ℕ) (active : are_active marks entries ≡ true)
   all_fit j l = crossable_below marks entries j (rw all-crossable l)
 
   pub all-marked_again : set_all 1 (set_all 0 marks entries) entries ≡ marks
-  all-marked_again = ap (λ (es : List ℕ). set_all 1 (set_all 0 marks es) es) (sym all-taken) ∙ marked_again marks entries
+  all-marked_again =
+      ap (λ (es : List ℕ). set_all 1 (set_all 0 marks es) es) (sym all-taken) ∙ marked_again marks entries
 
   module _ (bits : marks_are_bits marks ≡ true) where
     pub all-crossed : set_all 0 marks entries ≡ replicate (length marks) 0

@@ -43,7 +43,8 @@ module _ (nodes : List ℕ) (i : ℕ) {before after : List ℕ} {free : Bool} wh
     stamp = claim_stamp c (omega arith) s;
   }
 
-pub nothing_paired : (nodes : List ℕ) (i : ℕ) (claims : List ℕ) → get_or nodes (5 * i) 0 ≢ 4 → get_or nodes (5 * i) 0 ≢ 5
+pub nothing_paired : (nodes : List ℕ) (i : ℕ) (claims : List ℕ) → get_or nodes (5 * i) 0 ≢ 4
+    → get_or nodes (5 * i) 0 ≢ 5
     → EntryPairing nodes i true claims claims
 nothing_paired nodes i claims a b =
     let no_in = in_number (get_or nodes (5 * i) 0) ∙ ne_eqb _ 4 a in

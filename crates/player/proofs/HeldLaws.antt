@@ -21,7 +21,8 @@ module _ (before claims : List ℕ) where
   abbrev pub HoldSame : ℕ → Type 0
   HoldSame n =
       (j : ℕ) → j < n
-      → (get_or claims (1536 + j) 0 ≡ get_or before (1536 + j) 0) × (get_or claims (2560 + j) 0 ≡ get_or before (2560 + j) 0)
+      → (get_or claims (1536 + j) 0 ≡ get_or before (1536 + j) 0)
+      × (get_or claims (2560 + j) 0 ≡ get_or before (2560 + j) 0)
 
   pub put_same : (keep : ℕ → ℕ → ℕ) (n : ℕ) (values : List ℕ) → HoldSame n
       → put_first keep claims n values ≡ put_first keep before n values

@@ -39,7 +39,8 @@ module _ {exprs nodes values marks counts work : List ℕ} (x : Walking exprs no
   -- a child of a SEQ before another, which was entered
   module _ {o : ℕ} {marks₁ counts₁ work₁ : List ℕ} (k : kind_word nodes h ≡ 1) (n : end_at nodes i < end_at nodes h)
       (e : Enters exprs nodes values work
-      (enter (holds_in exprs values) (statement_at nodes (end_at nodes i)) (walk_in marks counts work)) o marks₁ counts₁
+      (enter (holds_in exprs values) (statement_at nodes (end_at nodes i)) (walk_in marks counts work)) o marks₁
+      counts₁
       work₁) where
     left_next : leave (holds_in exprs values) nodes i (walk_in marks counts work)
         ≡ then_leave (entered o (walk_in marks₁ counts₁ work₁)) (leave (holds_in exprs values) nodes (end_at nodes i))
@@ -48,7 +49,8 @@ module _ {exprs nodes values marks counts work : List ℕ} (x : Walking exprs no
         ∙ rw (lt-ltb (end_at nodes i) (end_at nodes h) n)
         (ap (λ (r : Entered). then_leave r (leave (holds_in exprs values) nodes (end_at nodes i))) e.right)
 
-    pub seq_next : Turned exprs nodes values work i (walk_in marks counts work) (cond (eqb o 0) (end_at nodes i) 0) marks₁
+    pub seq_next : Turned exprs nodes values work i (walk_in marks counts work)
+        (cond (eqb o 0) (end_at nodes i) 0) marks₁
         counts₁ work₁
     seq_next =
         turn_if_finished e.walking e.kept i h l p o (end_at nodes i) left_next
@@ -74,7 +76,8 @@ module _ {exprs nodes values marks counts work : List ℕ} (x : Walking exprs no
       (turn_to_parent y (kept_refl 2307 work) i h l p)
 
   -- no other kind is a parent
-  pub other_child : (1 ≤ kind_word nodes h → kind_word nodes h ≤ 2 → ⊥) → (6 ≤ kind_word nodes h → kind_word nodes h ≤ 7 → ⊥)
+  pub other_child : (1 ≤ kind_word nodes h → kind_word nodes h ≤ 2 → ⊥)
+      → (6 ≤ kind_word nodes h → kind_word nodes h ≤ 7 → ⊥)
       → Turned exprs nodes values work i (walk_in marks counts work) 0 marks counts work
   other_child a b =
       elim (parent_kind nodes x.walkable.nodes_ok i l h p) [
@@ -102,16 +105,23 @@ module _ {exprs nodes values marks counts work : List ℕ} (x : Walking exprs no
     -- its child was entered again, and a zero-time loop is noted where it finished
     module _ {o : ℕ} {marks₂ counts₂ work₂ : List ℕ} (t : answer ≡ true)
         (e : Enters exprs nodes values work₁
-        (enter (holds_in exprs values) (statement_at nodes (suc h)) (walk_in marks counts work₁)) o marks₂ counts₂ work₂)
+        (enter (holds_in exprs values) (statement_at nodes (suc h)) (walk_in marks counts work₁)) o marks₂ counts₂
+        work₂)
       where
         abbrev work₃ : List ℕ
         work₃ = cond (eqb o 0) (set work₂ 2306 1) work₂
 
         again : Enters exprs nodes values work₁
-            (passed true (enter (holds_in exprs values) (statement_at nodes (suc h)) (walk_in marks counts work₁))) o marks₂
+            (passed true (enter (holds_in exprs values) (statement_at nodes (suc h)) (walk_in marks counts work₁))) o
+            marks₂
             counts₂ work₃
         again =
-            node_passed true (suc h) (record { right = refl; walking = y; kept = kept_refl 2307 work₁ }) o marks₂ counts₂
+            node_passed true (suc h) (record {
+              right = refl;
+              walking = y;
+              kept =
+                  kept_refl 2307 work₁;
+            }) o marks₂ counts₂
             work₂ e
 
         again_kept : KeptFrom 2307 work work₃
@@ -123,13 +133,15 @@ module _ {exprs nodes values marks counts work : List ℕ} (x : Walking exprs no
         left_again =
             let b = (is_parent nodes i h p).lower in
             let only = whl_only_child nodes x.walkable.nodes_ok i h (omega arith) (kind_whl _ k) p in
-            let child : Walk → ℕ → Entered = λ v j. loop_if_finished (enter (holds_in exprs values) (statement_at nodes j) v) in
+            let child : Walk → ℕ → Entered =
+            λ v j. loop_if_finished (enter (holds_in exprs values) (statement_at nodes j) v) in
             let left : Entered → Walk = λ r. then_leave r (leave (holds_in exprs values) nodes h) in
             leave_whl_true nodes x.walkable.nodes_ok (holds_in exprs values) i h _ l p (kind_whl _ k) (sym asked ∙ t)
             ∙ ap (λ (j : ℕ). left (child (walk_in marks counts work) j)) only
             ∙ ap (λ (v : Walk). left (child v (suc h))) same_walk ∙ ap left again.right
 
-        pub whl_true : Turned exprs nodes values work i (walk_in marks counts work) (cond (eqb o 0) h 0) marks₂ counts₂
+        pub whl_true : Turned exprs nodes values work i (walk_in marks counts work)
+            (cond (eqb o 0) h 0) marks₂ counts₂
             work₃
         whl_true =
             turn_if_finished again.walking again_kept i h l p o h left_again

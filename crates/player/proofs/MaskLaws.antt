@@ -71,7 +71,8 @@ abbrev pub RangeTo : List ℕ → List ℕ → ℕ → Type 0
 RangeTo widths values v =
     (v ≤ length values) × ((u : ℕ) → u < v → get_or values u 0 < 2 ^ width_at widths u)
 
-module _ (widths values : List ℕ) {v mask : ℕ} (right : mask ≡ 2 ^ width_at widths v - 1) (l : v < length values) where
+module _ (widths values : List ℕ) {v mask : ℕ} (right : mask ≡ 2 ^ width_at widths v - 1)
+    (l : v < length values) where
   pub one_in_range : RangeTo widths values v → get_or values v 0 ≤ mask → RangeTo widths values (v + 1)
   one_in_range h fits = (
     omega arith,

@@ -30,7 +30,8 @@ pub one_forgotten : {before work : List ℕ} {i : ℕ} → Forgotten before work
 one_forgotten {before} {work} {i} f l =
     let (low, high) = f.range in
     let size = f.size in
-    let other : (j : ℕ) → j ≢ i → get_or (set work i 0) j 0 ≡ get_or work j 0 = λ j n. get_or-set_other work i j 0 0 n in
+    let other : (j : ℕ) → j ≢ i → get_or (set work i 0) j 0 ≡ get_or work j 0 =
+    λ j n. get_or-set_other work i j 0 0 n in
     record {
       range = (omega arith, omega arith);
       size = length-set work i 0 ∙ size;

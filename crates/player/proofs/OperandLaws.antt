@@ -48,22 +48,26 @@ module _ (exprs values : List ℕ) where
   unfolding value_of
   value_of_number e l w =
       from_first (expr_count exprs) e l
-      ∙ ap (λ (o : Op). value_of values (first_values exprs values e) o (p_at exprs e) (q_at exprs e)) (ap op_of w ∙ op_number)
+      ∙ ap (λ (o : Op). value_of values (first_values exprs values e) o (p_at exprs e) (q_at exprs e)) (ap op_of w
+      ∙ op_number)
 
   value_of_variable : (e : ℕ) → e < expr_count exprs → get_or exprs (3 * e) 0 ≡ 1
       → get_or (expr_values exprs values) e 0 ≡ get_or values (p_at exprs e) 0
   unfolding value_of
   value_of_variable e l w =
       from_first (expr_count exprs) e l
-      ∙ ap (λ (o : Op). value_of values (first_values exprs values e) o (p_at exprs e) (q_at exprs e)) (ap op_of w ∙ op_variable)
+      ∙ ap (λ (o : Op). value_of values (first_values exprs values e) o (p_at exprs e) (q_at exprs e)) (ap op_of w
+      ∙ op_variable)
 
-  value_of_operands : (e : ℕ) → e < expr_count exprs → 2 ≤ get_or exprs (3 * e) 0 → p_at exprs e < e → q_at exprs e < e
+  value_of_operands : (e : ℕ) → e < expr_count exprs → 2 ≤ get_or exprs (3 * e) 0 → p_at exprs e < e
+      → q_at exprs e < e
       → get_or (expr_values exprs values) e 0
       ≡ applied (op_at exprs e) (get_or (expr_values exprs values) (p_at exprs e) 0)
       (get_or (expr_values exprs values) (q_at exprs e) 0)
   value_of_operands e l w lp lq =
       from_first (expr_count exprs) e l
-      ∙ sym (by_operands values (first_values exprs values e) (p_at exprs e) (q_at exprs e) (get_or exprs (3 * e) 0) w)
+      ∙ sym (by_operands values (first_values exprs values e) (p_at exprs e) (q_at exprs e)
+      (get_or exprs (3 * e) 0) w)
       ∙ (λ i. applied (op_at exprs e) (operand e (p_at exprs e) l lp i) (operand e (q_at exprs e) l lq i))
 
 -- ---- what question 2 says of the operands
@@ -100,7 +104,8 @@ module _ (exprs values : List ℕ) (f : Formulas exprs values) where
   variable_below e l w =
       let p = p_at exprs e in
       let q = q_at exprs e in
-      let ok = subst (λ (o : Op). expr_words_ok (length values) e o p q ≡ true) (ap op_of w ∙ op_variable) (f.ok e l) in
+      let ok = subst (λ (o : Op). expr_words_ok (length values) e o p q ≡ true) (ap op_of w
+      ∙ op_variable) (f.ok e l) in
       ltb-true p (length values) (and_left (ltb p (length values)) (eqb q 0) ok)
 
   -- a variable has its place in `work`, and its value there
@@ -111,7 +116,8 @@ module _ (exprs values : List ℕ) (f : Formulas exprs values) where
       omega arith
 
   pub right_by_variable : (work : List ℕ) (e p x : ℕ) → Memo exprs values work → e < expr_count exprs
-      → get_or exprs (3 * e) 0 ≡ 1 → p ≡ p_at exprs e → x ≡ get_or work p 0 → x ≡ get_or (expr_values exprs values) e 0
+      → get_or exprs (3 * e) 0 ≡ 1 → p ≡ p_at exprs e → x ≡ get_or work p 0
+      → x ≡ get_or (expr_values exprs values) e 0
   right_by_variable work e p x m l w ep ex =
       ex ∙ ap (λ (k : ℕ). get_or work k 0) ep ∙ m.variables (p_at exprs e) (variable_below e l w)
       ∙ sym (value_of_variable exprs values e l w)
@@ -139,7 +145,8 @@ number_handed exprs values e p l w ep = record {
 }
 
 pub variable_handed : (exprs values : List ℕ) → Formulas exprs values → (work : List ℕ) (e p x : ℕ)
-    → Memo exprs values work → e < expr_count exprs → get_or exprs (3 * e) 0 ≡ 1 → p ≡ p_at exprs e → x ≡ get_or work p 0
+    → Memo exprs values work → e < expr_count exprs → get_or exprs (3 * e) 0 ≡ 1 → p ≡ p_at exprs e
+    → x ≡ get_or work p 0
     → Handed exprs values e true x
 variable_handed exprs values f work e p x m l w ep ex = record {
   right = λ k. right_by_variable exprs values f work e p x m l w ep ex;

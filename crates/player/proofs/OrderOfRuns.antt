@@ -31,4 +31,5 @@ order_of_runs P accepted s fit formed cycles b d r t g h =
 
 pub refused_runs : (P : Program) (s : State) → ¬ ((check_number P ≡ 0) × Ready P s)
     → (m n : ℕ) (b d : List ℕ) (r t : Answer) → RunGives P m s b r → RunGives P n s d t → r ≡ t
-refused_runs P s not-ready m n b d r t g h = rules_answer g ∙ refused_alike P s not-ready m n b d ∙ sym (rules_answer h)
+refused_runs P s not-ready m n b d r t g h =
+    rules_answer g ∙ refused_alike P s not-ready m n b d ∙ sym (rules_answer h)

@@ -42,7 +42,8 @@ rank_node claims part slot {i} = pick (eqb (get_or claims (part + slot) 0) (get_
     pick false e = absurd (omega arith)
 
 pub rank_kept : (before after : List ℕ) (part slot : ℕ) → get_or after (part + slot) 0 ≡ get_or before (part + slot) 0
-    → get_or after (768 + part + slot) 0 ≡ get_or before (768 + part + slot) 0 → get_or after 3584 0 ≡ get_or before 3584 0
+    → get_or after (768 + part + slot) 0 ≡ get_or before (768 + part + slot) 0
+    → get_or after 3584 0 ≡ get_or before 3584 0
     → rank_in after part slot ≡ rank_in before part slot
 rank_kept before after part slot a b c = λ i. cond (eqb (a i) (c i)) (suc (b i)) 0
 
@@ -86,7 +87,8 @@ module _ (claims : List ℕ) (part slot i : ℕ) where
       size_once = length-set claims (part + slot) stamp
 
       others : (j : ℕ) → j ≢ part + slot → j ≢ 768 + part + slot → get_or twice j 0 ≡ get_or claims j 0
-      others j a b = get_or-set_other once (768 + part + slot) j i 0 b ∙ get_or-set_other claims (part + slot) j stamp 0 a
+      others j a b =
+          get_or-set_other once (768 + part + slot) j i 0 b ∙ get_or-set_other claims (part + slot) j stamp 0 a
 
       here : get_or twice (part + slot) 0 ≡ stamp
       here =
@@ -106,7 +108,8 @@ module _ {before after : List ℕ} {part slot i : ℕ} {free : Bool} (c : Claim 
   claim_stamp = c.rest 3584 (λ e. omega arith) (λ e. omega arith)
 
   -- a stamp stays, or becomes that of the cycle
-  pub claim_stamps : (j : ℕ) → j < 768 → (get_or after j 0 ≡ get_or before j 0) ⊎ (get_or after j 0 ≡ get_or before 3584 0)
+  pub claim_stamps : (j : ℕ) → j < 768 → (get_or after j 0 ≡ get_or before j 0)
+      ⊎ (get_or after j 0 ≡ get_or before 3584 0)
   claim_stamps j l = pick (eqb j (part + slot)) refl
     where
       pick : (b : Bool) → eqb j (part + slot) ≡ b
@@ -134,6 +137,7 @@ module _ (uses : ℕ → Bool) (key : ℕ → ℕ) (part : ℕ) (before after : 
       pick false e = claim_others c p s part slot (omega arith) (λ q. eqb-false (key i) slot e (omega arith))
 
   -- a node that wants none
-  pub claimed_nothing : ((slot : ℕ) → slot < 256 → rank_in after part slot ≡ rank_in before part slot) → uses i ≡ false
+  pub claimed_nothing : ((slot : ℕ) → slot < 256 → rank_in after part slot ≡ rank_in before part slot)
+      → uses i ≡ false
       → Claimed uses key part before after i
   claimed_nothing h u slot l = rw u (h slot l)

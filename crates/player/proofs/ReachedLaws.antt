@@ -31,7 +31,8 @@ pub reached_here : {exprs nodes values : List ℕ} {rule : Entered} {marks count
 reached_here {work = work} w = record { right = refl; walking = w; kept = kept_refl 2307 work }
 
 -- what is left was entered
-pub reached_enters : {exprs nodes values before : List ℕ} {rule rest : Entered} {marks counts work : List ℕ} {outcome : ℕ}
+pub reached_enters : {exprs nodes values before : List ℕ} {rule rest : Entered} {marks counts work : List ℕ}
+    {outcome : ℕ}
     {marks' counts' work' : List ℕ} → Reached exprs nodes values before rule rest marks counts work
     → Enters exprs nodes values work rest outcome marks' counts' work'
     → Enters exprs nodes values before rule outcome marks' counts' work'
@@ -50,7 +51,8 @@ rest_at exprs nodes values looping node marks counts work =
 
 pub node_first : {exprs nodes values marks counts work : List ℕ} (i : ℕ)
     → Walking exprs nodes values marks counts work
-    → Reached exprs nodes values work (enter (holds_in exprs values) (statement_at nodes i) (walk_in marks counts work))
+    → Reached exprs nodes values work
+    (enter (holds_in exprs values) (statement_at nodes i) (walk_in marks counts work))
     (rest_at exprs nodes values false i marks counts work) marks counts work
 unfolding passed
 node_first i w = reached_here w
@@ -59,8 +61,10 @@ kept_looped : (looped : Bool) (work : List ℕ) → KeptFrom 2307 work (cond loo
 kept_looped false work = kept_refl 2307 work
 kept_looped true work = kept_set 2307 2306 1 work (omega arith)
 
-module _ {exprs nodes values before : List ℕ} {rule : Entered} (looping : Bool) (node : ℕ) {marks counts work : List ℕ}
-    (r : Reached exprs nodes values before rule (rest_at exprs nodes values looping node marks counts work) marks counts
+module _ {exprs nodes values before : List ℕ} {rule : Entered} (looping : Bool)
+    (node : ℕ) {marks counts work : List ℕ}
+    (r : Reached exprs nodes values before rule
+    (rest_at exprs nodes values looping node marks counts work) marks counts
     work) where
   -- a leaf is marked, whatever was passed
   pub node_leaf : node < node_count nodes → is_leaf (kind_at nodes node) ≡ true
@@ -82,7 +86,8 @@ module _ {exprs nodes values before : List ℕ} {rule : Entered} (looping : Bool
 
   -- the node was entered, and a WHL may have been passed
   pub node_passed : (outcome : ℕ) (marks' counts' work' : List ℕ)
-      → Enters exprs nodes values work (enter (holds_in exprs values) (statement_at nodes node) (walk_in marks counts work))
+      → Enters exprs nodes values work
+      (enter (holds_in exprs values) (statement_at nodes node) (walk_in marks counts work))
       outcome marks' counts' work'
       → Enters exprs nodes values before rule outcome marks' counts'
       (cond (looping && eqb outcome 0) (set work' 2306 1) work')
@@ -98,23 +103,27 @@ module _ {exprs nodes values before : List ℕ} {rule : Entered} (looping : Bool
       }
 
   -- an IF or a WHL enters no child
-  pub node_none : (child : ℕ) (work' : List ℕ) → Chosen exprs nodes values work node marks counts child work' → child ≡ 0
+  pub node_none : (child : ℕ) (work' : List ℕ) → Chosen exprs nodes values work node marks counts child work'
+      → child ≡ 0
       → Enters exprs nodes values before rule 0 marks counts (cond (looping && true) (set work' 2306 1) work')
   unfolding entered
   node_none child work' ch z =
       node_passed 0 marks counts work'
       (record {
         right = ch.none z (walk_in marks counts work)
-            ∙ ap (λ (b : Bool). entered 0 (walk marks counts b)) (sym (met_kept 2304 work work' (omega arith) ch.kept));
+            ∙ ap (λ (b : Bool). entered 0 (walk marks counts b))
+            (sym (met_kept 2304 work work' (omega arith) ch.kept));
         range = omega arith;
         walking = ch.walking;
         kept = kept_weaken 2304 2307 work work' (omega arith) ch.kept;
       })
 
   -- it goes on with one
-  pub node_child : (child : ℕ) (work' : List ℕ) → Chosen exprs nodes values work node marks counts child work' → child ≢ 0
+  pub node_child : (child : ℕ) (work' : List ℕ) → Chosen exprs nodes values work node marks counts child work'
+      → child ≢ 0
       → Reached exprs nodes values before rule
-      (rest_at exprs nodes values (looping || eqb (kind_word nodes node) 7) child marks counts work') marks counts work'
+      (rest_at exprs nodes values (looping || eqb (kind_word nodes node) 7) child marks counts work') marks counts
+      work'
   node_child child work' ch n =
       let entering : Walk → Entered = enter (holds_in exprs values) (statement_at nodes child) in
       record {

@@ -56,7 +56,8 @@ module _ {exprs nodes values entries : List ℕ} {n k i : ℕ} {claims : List �
       → e < expr_count exprs
   storing_source e s q = rw (sym x.same_exprs) (source_inside storing_entry e s q)
 
-  module _ {claims₁ : List ℕ} {free : Bool} (c : Claim claims claims₁ 512 target i free) (s : entry_stores ≡ true) where
+  module _ {claims₁ : List ℕ} {free : Bool} (c : Claim claims claims₁ 512 target i free) (s : entry_stores
+      ≡ true) where
     -- it has claimed its variable
     abbrev pub claimed_entry : PairedEntry nodes claims₁ i
     claimed_entry =

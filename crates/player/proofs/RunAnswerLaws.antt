@@ -47,7 +47,8 @@ module _ {P : Program} {n : ℕ} {s : State} {book : List ℕ} where
       }
 
   -- question q, before the first cycle, is the first answered no
-  refused : (q : ℕ) {item : ℕ} → first_no (check_questions P ++ later P s) ≡ q → eqb q 0 ≡ false → fault_item P q ≡ item
+  refused : (q : ℕ) {item : ℕ} → first_no (check_questions P ++ later P s) ≡ q → eqb q 0 ≡ false
+      → fault_item P q ≡ item
       → RunAnswer P n s book q item 0 s
   unfolding run_answer
   refused q e no_zero =
@@ -66,7 +67,8 @@ module _ {P : Program} {n : ℕ} {s : State} {book : List ℕ} where
     answer_6 fit h = refused 6 (after_check P (later P s) 0 (sym ok) ∙ rw (fit, h)) refl (no_item P 6 refl)
 
     -- the cycles of an accepted program come with no item
-    pub answer_cycles : {q k : ℕ} {s' : State} → run_answer P n s book ≡ answer P q k s' → RunAnswer P n s book q 0 k s'
+    pub answer_cycles : {q k : ℕ} {s' : State} → run_answer P n s book ≡ answer P q k s'
+        → RunAnswer P n s book q 0 k s'
     answer_cycles right =
         let none = (item_of_check P s n book).1 ∙ ap (fault_item P) ok ∙ no_item P 0 refl in
         by_answer right (sym (ap (λ (x : Answer). x.item) right) ∙ none)

@@ -95,7 +95,8 @@ module _ {P : Program} {n : ℕ} {s₀ : State} {book : List ℕ} (start : Runna
             let ready = p.runnable in
             let enough : mark_count s.marks ≤ length rest =
             subst (λ (x : ℕ). x ≤ length rest)
-            (sym (length-take (mark_count s.marks) rest) ∙ ((active_means s.marks (next_entries s rest)).0 active).as_many)
+            (sym (length-take (mark_count s.marks) rest)
+            ∙ ((active_means s.marks (next_entries s rest)).0 active).as_many)
             (min-le_right (mark_count s.marks) (length rest)) in
             record {
               within = omega arith;

@@ -60,10 +60,12 @@ module _ {exprs nodes values marks counts work : List ℕ} (w : Walking exprs no
 
 -- ---- a turn of the loop over the children of a SEQ
 module _ {exprs nodes values before : List ℕ} {rule : Entered} (h j : ℕ) {marks counts work : List ℕ}
-    (r : Reached exprs nodes values before rule (turns_from exprs nodes values h j marks counts work) marks counts work)
+    (r : Reached exprs nodes values before rule
+    (turns_from exprs nodes values h j marks counts work) marks counts work)
     (below : j < end_at nodes h) (is_node : j < node_count nodes) where
   module _ {outcome : ℕ} {marks' counts' work' : List ℕ}
-      (e : Enters exprs nodes values work (enter (holds_in exprs values) (statement_at nodes j) (walk_in marks counts work))
+      (e : Enters exprs nodes values work
+      (enter (holds_in exprs values) (statement_at nodes j) (walk_in marks counts work))
       outcome marks' counts' work') where
     turn : rule ≡ then_enter (entered outcome (walk_in marks' counts' work'))
         (enter_in_turn (holds_in exprs values) (children_from nodes (end_at nodes j) h))
@@ -98,7 +100,8 @@ module _ {exprs nodes values before : List ℕ} {rule : Entered} (h j : ℕ) {ma
           kept = kept_trans 2307 before work work' r.kept e.kept;
         }
 
-  pub turn_last : h < j → end_at nodes h ≤ end_at nodes j → ButLast exprs nodes values before h rule 0 j marks counts work
+  pub turn_last : h < j → end_at nodes h ≤ end_at nodes j
+      → ButLast exprs nodes values before h rule 0 j marks counts work
   turn_last a u =
       record {
         stopped = λ n. absurd (n refl);
@@ -114,7 +117,8 @@ module _ {exprs nodes values before : List ℕ} {rule : Entered} (h j : ℕ) {ma
       }
 
 -- ---- a turn of the loop over the children of a PAR
-length-lowered : (lowers : Bool) (counts : List ℕ) (h : ℕ) → length (cond lowers (lowered counts h) counts) ≡ length counts
+length-lowered : (lowers : Bool) (counts : List ℕ) (h : ℕ)
+    → length (cond lowers (lowered counts h) counts) ≡ length counts
 length-lowered true counts h = length-set counts h _
 length-lowered false counts h = refl
 
@@ -123,10 +127,12 @@ outcome_range true = omega arith
 outcome_range false = omega arith
 
 module _ {exprs nodes values before : List ℕ} {rule : Entered} (h j : ℕ) {marks counts work : List ℕ}
-    (r : Reached exprs nodes values before rule (each_from exprs nodes values h j marks counts work) marks counts work)
+    (r : Reached exprs nodes values before rule
+    (each_from exprs nodes values h j marks counts work) marks counts work)
   where
     pub each_goes_on : j < end_at nodes h → j < node_count nodes → {outcome : ℕ} {marks' counts' work' : List ℕ}
-        → Enters exprs nodes values work (enter (holds_in exprs values) (statement_at nodes j) (walk_in marks counts work))
+        → Enters exprs nodes values work
+        (enter (holds_in exprs values) (statement_at nodes j) (walk_in marks counts work))
         outcome marks' counts' work'
         → let lower = cond (eqb outcome 0) (lowered counts' h) counts' in
         Reached exprs nodes values before rule

@@ -186,7 +186,8 @@ module _ {nodes entries : List ℕ} (x : CycleOf nodes entries) where
               )
 
           pub sides_worked : length values ≡ x.variables
-              → ((e : ℕ) → source (program x) x.marks entry ≡ some e → value ≡ get_or (expr_values x.exprs values) e 0)
+              → ((e : ℕ) → source (program x) x.marks entry ≡ some e
+              → value ≡ get_or (expr_values x.exprs values) e 0)
               → SidesTo x values claims₂ (n + 1) (k + 1)
           sides_worked fit right =
               let (e, q) = some_source side_entry s in
@@ -203,7 +204,8 @@ module _ {nodes entries : List ℕ} (x : CycleOf nodes entries) where
                     (rw s (sym c.was_free))
                     (λ slot u. ranks_stay claims₁ claims₂ (hold-length claims₁ n target value) front stamp 512 slot
                     (omega arith)
-                    ∙ claimed_key storing (target_at nodes) 512 claims claims₁ entry c refl (omega arith) (inside s) s slot u);
+                    ∙ claimed_key storing (target_at nodes) 512 claims claims₁ entry c refl (omega arith)
+                    (inside s) s slot u);
                 few = omega arith;
                 targets = λ j u. elim (lt_or_le j n) [
                   | inl m ↦

@@ -123,7 +123,8 @@ module _ (exprs nodes widths values marks work₀ work₁ work₂ work₃ : List
             (λ j l. parents.front j (omega arith) ∙ masks.front j (omega arith)) memo);
         tally = tally-set work₃ n parents.size;
         climbing = λ i l. other (2307 + i) (λ (d : 2307 + i ≡ 2305). omega arith) ∙ parents.parents i l;
-        masks = λ v l. other (3331 + v) (λ (d : 3331 + v ≡ 2305). omega arith) ∙ parents.masks (3331 + v) (omega arith)
+        masks = λ v l. other (3331 + v) (λ (d : 3331 + v ≡ 2305). omega arith)
+            ∙ parents.masks (3331 + v) (omega arith)
             ∙ all-masks masks v l;
         unmet = other 2306 (λ d. omega arith) ∙ parents.front 2306 (omega arith) ∙ masks.front 2306 (omega arith)
             ∙ kept 2306 (omega arith) ∙ ap (λ (l : List ℕ). get_or l 2306 0) h ∙ zeros 3587 2306;

@@ -111,7 +111,8 @@ module _ {nodes claims : List ℕ} {i : ℕ} (x : PairedEntry nodes claims i) wh
       ]
 
   -- it is a marked OUT
-  sender_out : {y : ℕ} {ys : List ℕ} → sent ≡ y ∷ ys → (marked x.cycle.marks y ≡ true) × (has_kind nodes is_out y ≡ true)
+  sender_out : {y : ℕ} {ys : List ℕ} → sent ≡ y ∷ ys → (marked x.cycle.marks y ≡ true)
+      × (has_kind nodes is_out y ≡ true)
   sender_out {y} {ys} e =
       let h = first_active x.cycle.marks (λ j. has_kind nodes is_out j && eqb (a_at nodes j) (a_at nodes i)) y ys e in
       (h.0, and_left _ _ h.1)

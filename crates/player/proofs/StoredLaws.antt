@@ -124,7 +124,8 @@ module _ (old before claims₀ : List ℕ) where
                 ap (λ (m : ℕ). set values target (bit_and (get_or claims (2560 + n) 0) m)) mask
                 ∙ (λ i. set (first i) (here i) (masked_by before (here i) (new i)))
                 ∙ ap (λ (i : ℕ). put_first (masked_by before) claims₀ i old) (sym (add-one n));
-            variables = agree-set (length old) target value work values (omega (arith, h.size)) stored_target h.variables;
+            variables =
+                agree-set (length old) target value work values (omega (arith, h.size)) stored_target h.variables;
             kept = λ j m. get_or-set_other work target j value 0 (λ e. omega arith) ∙ h.kept j m;
             same = λ r.
                 let differs = not (eqb (get_or values target 0) value) in

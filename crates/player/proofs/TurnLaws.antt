@@ -41,7 +41,8 @@ module _ (nodes : List ℕ) (ok : NodesOk nodes) (i : ℕ) (l : i < node_count n
         omega arith
 
     -- it is a SEQ or a PAR, an IF or a WHL
-    pub parent_kind : ((1 ≤ kind_word nodes h) × (kind_word nodes h ≤ 2)) ⊎ ((6 ≤ kind_word nodes h) × (kind_word nodes h ≤ 7))
+    pub parent_kind : ((1 ≤ kind_word nodes h) × (kind_word nodes h ≤ 2))
+        ⊎ ((6 ≤ kind_word nodes h) × (kind_word nodes h ≤ 7))
     parent_kind =
         let known = kind_in_range _ (facts nodes ok h parent_node).kind_known in
         elim (lt_or_le (kind_word nodes h) 3) [

@@ -10,7 +10,8 @@ use Rattle.player.specs.Walks.{walk_in, holds_in, Walking, Walks, Turned}
 use Rattle.player.proofs.WorkLaws.{kept_refl, kept_trans}
 
 -- `before` is `work` at the start of the loop.
-pub record Underway (exprs nodes values before : List ℕ) (rule rest : Walk) (marks counts work : List ℕ) : Type 0 where
+pub record Underway (exprs nodes values before : List ℕ) (rule rest : Walk)
+    (marks counts work : List ℕ) : Type 0 where
   pub right : rule ≡ rest
   pub walking : Walking exprs nodes values marks counts work
   pub kept : KeptFrom 2307 before work
@@ -36,7 +37,8 @@ module _ {exprs nodes values before marks counts work : List ℕ} {rule rest : W
 
 -- ---- a climb that has come to node r
 module _ {exprs nodes values before marks counts work : List ℕ} {rule : Walk} {r : ℕ}
-    (x : Underway exprs nodes values before rule (leave (holds_in exprs values) nodes r (walk_in marks counts work)) marks
+    (x : Underway exprs nodes values before rule
+    (leave (holds_in exprs values) nodes r (walk_in marks counts work)) marks
     counts work) where
   pub climb_next : {r₁ : ℕ} {marks₁ counts₁ work₁ : List ℕ}
       → Turned exprs nodes values work r (walk_in marks counts work) r₁ marks₁ counts₁ work₁

@@ -35,7 +35,8 @@ module _ (P : Program) (s : State) {exprs values marks counts work : List ℕ}
   pub visit_completes : {marks₁ counts₁ work₁ : List ℕ} → waits P s.marks i ≡ false
       → Walks exprs P.nodes values work (leave (holds_in exprs values) P.nodes i (walk_in marks counts work)) marks₁
       counts₁ work₁
-      → Walks exprs P.nodes values work (visit P s (holds_in exprs values) (walk_in marks counts work) i) marks₁ counts₁
+      → Walks exprs P.nodes values work
+      (visit P s (holds_in exprs values) (walk_in marks counts work) i) marks₁ counts₁
       work₁
   unfolding visit
   visit_completes h y = record { right = rw h y.right; walking = y.walking; kept = y.kept }
@@ -46,7 +47,8 @@ module _ (step : Walk → ℕ → Walk) (entries : List ℕ) (k : ℕ) {exprs no
     (foldl step (walk_in marks counts work) (drop k entries)) marks counts work) where
   pub visits_next : {marks₁ counts₁ work₁ : List ℕ} → k < length entries
       → Walks exprs nodes values work (step (walk_in marks counts work) (get_or entries k 0)) marks₁ counts₁ work₁
-      → Underway exprs nodes values before rule (foldl step (walk_in marks₁ counts₁ work₁) (drop (k + 1) entries)) marks₁
+      → Underway exprs nodes values before rule
+      (foldl step (walk_in marks₁ counts₁ work₁) (drop (k + 1) entries)) marks₁
       counts₁ work₁
   visits_next l y =
       underway_next x

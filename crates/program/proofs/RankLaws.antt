@@ -47,9 +47,11 @@ module _ (nodes : List ℕ) where
   unfolding node_rank
   covers i rank l u =
       let e : rank ≡ suc (rank - 1) = omega arith in
-      e ∙ sym (ap (λ (r : ℕ). node_rank (parent_below nodes i r)) e ∙ ap node_rank (search_covers nodes i (rank - 1) u))
+      e ∙ sym (ap (λ (r : ℕ). node_rank (parent_below nodes i r)) e
+      ∙ ap node_rank (search_covers nodes i (rank - 1) u))
 
-  pub parent_at_lem : (parents : List ℕ) (n rank : ℕ) → ((j : ℕ) → j < n → get_or parents (suc j) 0 ≡ parent_rank nodes j)
+  pub parent_at_lem : (parents : List ℕ) (n rank : ℕ)
+      → ((j : ℕ) → j < n → get_or parents (suc j) 0 ≡ parent_rank nodes j)
       → 0 < rank → rank ≤ n → get_or parents rank 0 ≡ parent_rank nodes (rank - 1)
   parent_at_lem parents n rank right l u =
       let e : rank ≡ suc (rank - 1) = omega arith in

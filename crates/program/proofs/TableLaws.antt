@@ -49,7 +49,8 @@ module _ (nodes : List ℕ) where
       pick none e = sym (depth_none nodes n e)
       pick (some h) e = add-one (depth nodes h) ∙ sym (depth_parent nodes n h e)
 
-  children_same : (n : ℕ) → children_at nodes n (parent_rank nodes n) + 1 ≡ children_at nodes (n + 1) (parent_rank nodes n)
+  children_same : (n : ℕ)
+      → children_at nodes n (parent_rank nodes n) + 1 ≡ children_at nodes (n + 1) (parent_rank nodes n)
   unfolding children_at
   children_same n =
       let r = parent_rank nodes n in

@@ -17,7 +17,8 @@ use Rattle.paper.proofs.WriterLaws.{answer_13, answer_0}
 use Rattle.paper.proofs.write.Goals as goal
 
 pub returns-then-checked-ne0 : goal.returns-then-checked-ne0
-returns-then-checked-ne0 c = let program : Program =
+returns-then-checked-ne0 c =
+    let program : Program =
     let a = c.args in program_of a.exprs.now a.nodes.now a.widths.now a.vars a.chans in
     let values : List ℕ = c.args.values.now in
     let lent : List ℕ = c.args.file.now in
@@ -26,7 +27,8 @@ returns-then-checked-ne0 c = let program : Program =
     (check_item_lem checked)) lent refl
 
 pub returns-then-values-vars : goal.returns-then-values-vars
-returns-then-values-vars c = let program : Program =
+returns-then-values-vars c =
+    let program : Program =
     let a = c.args in program_of a.exprs.now a.nodes.now a.widths.now a.vars a.chans in
     let values : List ℕ = c.args.values.now in
     let lent : List ℕ = c.args.file.now in
@@ -37,7 +39,8 @@ returns-then-values-vars c = let program : Program =
 -- ---- there is a value for each variable
 -- the parts are short
 pub overflow_mul-before_trailer : goal.overflow_mul-before_trailer
-overflow_mul-before_trailer c = let program : Program =
+overflow_mul-before_trailer c =
+    let program : Program =
     let a = c.args in program_of a.exprs.now a.nodes.now a.widths.now a.vars a.chans in
     let values : List ℕ = c.args.values.now in
     let is-accepted : 0 ≡ check_number program = sym c.if-checked-ne0.false ∙ c.check-checked.ensures.right_number in
@@ -59,7 +62,8 @@ overflow_mul-before_trailer c = let program : Program =
     ) in omega (arith, short)
 
 pub overflow_add-before_trailer-4 : goal.overflow_add-before_trailer-4
-overflow_add-before_trailer-4 c = let program : Program =
+overflow_add-before_trailer-4 c =
+    let program : Program =
     let a = c.args in program_of a.exprs.now a.nodes.now a.widths.now a.vars a.chans in
     let values : List ℕ = c.args.values.now in
     let is-accepted : 0 ≡ check_number program = sym c.if-checked-ne0.false ∙ c.check-checked.ensures.right_number in
@@ -81,7 +85,8 @@ overflow_add-before_trailer-4 c = let program : Program =
     ) in omega (arith, short)
 
 pub returns-then-file-before_trailer : goal.returns-then-file-before_trailer
-returns-then-file-before_trailer c = let program : Program =
+returns-then-file-before_trailer c =
+    let program : Program =
     let a = c.args in program_of a.exprs.now a.nodes.now a.widths.now a.vars a.chans in
     let values : List ℕ = c.args.values.now in
     let lent : List ℕ = c.args.file.now in
@@ -92,21 +97,24 @@ returns-then-file-before_trailer c = let program : Program =
 
 -- ---- the buffer is long enough
 pub overflow_cast-nodes : goal.overflow_cast-nodes
-overflow_cast-nodes c = let program : Program =
+overflow_cast-nodes c =
+    let program : Program =
     let a = c.args in program_of a.exprs.now a.nodes.now a.widths.now a.vars a.chans in
     let is-accepted : 0 ≡ check_number program = sym c.if-checked-ne0.false ∙ c.check-checked.ensures.right_number in
     let facts : Accepted program = accepted program (sym is-accepted) in
     omega (arith, facts.sizes.nodes_fit)
 
 pub overflow_cast-exprs : goal.overflow_cast-exprs
-overflow_cast-exprs c = let program : Program =
+overflow_cast-exprs c =
+    let program : Program =
     let a = c.args in program_of a.exprs.now a.nodes.now a.widths.now a.vars a.chans in
     let is-accepted : 0 ≡ check_number program = sym c.if-checked-ne0.false ∙ c.check-checked.ensures.right_number in
     let facts : Accepted program = accepted program (sym is-accepted) in
     omega (arith, facts.sizes.exprs_fit)
 
 pub trailer_of-trailer-requires : goal.trailer_of-trailer-requires
-trailer_of-trailer-requires c = let program : Program =
+trailer_of-trailer-requires c =
+    let program : Program =
     let a = c.args in program_of a.exprs.now a.nodes.now a.widths.now a.vars a.chans in
     let is-accepted : 0 ≡ check_number program = sym c.if-checked-ne0.false ∙ c.check-checked.ensures.right_number in
     let facts : Accepted program = accepted program (sym is-accepted) in
@@ -114,7 +122,8 @@ trailer_of-trailer-requires c = let program : Program =
     omega (arith, s.nodes_fit, s.exprs_fit, s.variables_fit)
 
 pub returns : goal.returns
-returns c = let program : Program =
+returns c =
+    let program : Program =
     let a = c.args in program_of a.exprs.now a.nodes.now a.widths.now a.vars a.chans in
     let values : List ℕ = c.args.values.now in
     let lent : List ℕ = c.args.file.now in

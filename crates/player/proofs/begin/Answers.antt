@@ -16,7 +16,8 @@ use Rattle.player.proofs.begin.Goals as goal
 
 -- the program and the state that begin is given
 pub returns-then-checked-ne0 : goal.returns-then-checked-ne0
-returns-then-checked-ne0 c = let program : Program =
+returns-then-checked-ne0 c =
+    let program : Program =
     program_of c.args.exprs.now c.args.nodes.now c.args.widths.now c.args.vars c.args.chans in
     let state : State = state_of c.args.values.now c.args.marks.now c.args.counts.now in
     let check = c.check-checked in
@@ -26,7 +27,8 @@ returns-then-checked-ne0 c = let program : Program =
 -- check's questions are answered yes
 pub returns-then-not-lengths_fit : goal.returns-then-not-lengths_fit
 unfolding lengths_ok
-returns-then-not-lengths_fit c = let program : Program =
+returns-then-not-lengths_fit c =
+    let program : Program =
     program_of c.args.exprs.now c.args.nodes.now c.args.widths.now c.args.vars c.args.chans in
     let state : State = state_of c.args.values.now c.args.marks.now c.args.counts.now in
     let checked : 0 ≡ check_number program = sym c.if-checked-ne0.false ∙ c.check-checked.ensures.right_number in
@@ -36,7 +38,8 @@ returns-then-not-lengths_fit c = let program : Program =
 -- and question 5
 pub values_in_range-requires : goal.values_in_range-requires
 unfolding lengths_ok
-values_in_range-requires c = let program : Program =
+values_in_range-requires c =
+    let program : Program =
     program_of c.args.exprs.now c.args.nodes.now c.args.widths.now c.args.vars c.args.chans in
     let state : State = state_of c.args.values.now c.args.marks.now c.args.counts.now in
     let checked : 0 ≡ check_number program = sym c.if-checked-ne0.false ∙ c.check-checked.ensures.right_number in
@@ -45,7 +48,8 @@ values_in_range-requires c = let program : Program =
 
 pub returns-then-not-values_in_range : goal.returns-then-not-values_in_range
 unfolding lengths_ok
-returns-then-not-values_in_range c = let program : Program =
+returns-then-not-values_in_range c =
+    let program : Program =
     program_of c.args.exprs.now c.args.nodes.now c.args.widths.now c.args.vars c.args.chans in
     let state : State = state_of c.args.values.now c.args.marks.now c.args.counts.now in
     let checked : 0 ≡ check_number program = sym c.if-checked-ne0.false ∙ c.check-checked.ensures.right_number in
@@ -55,35 +59,44 @@ returns-then-not-values_in_range c = let program : Program =
 
 pub enter_root-requires : goal.enter_root-requires
 unfolding lengths_ok
-enter_root-requires c = let program : Program =
+enter_root-requires c =
+    let program : Program =
     program_of c.args.exprs.now c.args.nodes.now c.args.widths.now c.args.vars c.args.chans in
     let state : State = state_of c.args.values.now c.args.marks.now c.args.counts.now in
     let checked : 0 ≡ check_number program = sym c.if-checked-ne0.false ∙ c.check-checked.ensures.right_number in
     let fitting : lengths_ok program state ≡ true = sym c.lengths_fit.ensures ∙ c.if-not-lengths_fit.false in
     let ok = accepted program (sym checked) in
-    let lengths = fits_lengths program state fitting in record { by_index = (c.args.widths.now, c.args.chans, rw lengths.values ok); marks_len = (lengths.marks, lengths.counts) }
+    let lengths = fits_lengths program state fitting in
+    record {
+      by_index = (c.args.widths.now, c.args.chans, rw lengths.values ok);
+      marks_len = (lengths.marks, lengths.counts);
+    }
 
 -- and question 6 of the values
 pub returns-then-enter_root : goal.returns-then-enter_root
 unfolding lengths_ok
-returns-then-enter_root c = let program : Program =
+returns-then-enter_root c =
+    let program : Program =
     program_of c.args.exprs.now c.args.nodes.now c.args.widths.now c.args.vars c.args.chans in
     let state : State = state_of c.args.values.now c.args.marks.now c.args.counts.now in
     let checked : 0 ≡ check_number program = sym c.if-checked-ne0.false ∙ c.check-checked.ensures.right_number in
     let fitting : lengths_ok program state ≡ true = sym c.lengths_fit.ensures ∙ c.if-not-lengths_fit.false in
     let in-range : let a = c.args in
-    values_in_range a.widths.now a.values.now ≡ true = sym c.values_in_range.ensures ∙ c.if-not-values_in_range.false in
+    values_in_range a.widths.now a.values.now ≡ true =
+    sym c.values_in_range.ensures ∙ c.if-not-values_in_range.false in
     answer_10 program state checked fitting in-range
     (c.enter_root.ensures c.args.widths.now c.args.vars c.args.chans) c.if-enter_root.true
 
 pub returns : goal.returns
 unfolding lengths_ok
-returns c = let program : Program =
+returns c =
+    let program : Program =
     program_of c.args.exprs.now c.args.nodes.now c.args.widths.now c.args.vars c.args.chans in
     let state : State = state_of c.args.values.now c.args.marks.now c.args.counts.now in
     let checked : 0 ≡ check_number program = sym c.if-checked-ne0.false ∙ c.check-checked.ensures.right_number in
     let fitting : lengths_ok program state ≡ true = sym c.lengths_fit.ensures ∙ c.if-not-lengths_fit.false in
     let in-range : let a = c.args in
-    values_in_range a.widths.now a.values.now ≡ true = sym c.values_in_range.ensures ∙ c.if-not-values_in_range.false in
+    values_in_range a.widths.now a.values.now ≡ true =
+    sym c.values_in_range.ensures ∙ c.if-not-values_in_range.false in
     answer_0 program state checked fitting in-range
     (c.enter_root.ensures c.args.widths.now c.args.vars c.args.chans) c.if-enter_root.false

@@ -21,7 +21,8 @@ returns-then-checked-ne0 c =
 -- check's questions are answered yes
 pub returns-then-not-lengths_fit : goal.returns-then-not-lengths_fit
 unfolding lengths_ok
-returns-then-not-lengths_fit c = let program : Program =
+returns-then-not-lengths_fit c =
+    let program : Program =
     program_of c.args.exprs.now c.args.nodes.now c.args.widths.now c.args.vars c.args.chans in
     let checked : check_number program ≡ 0 = sym c.check-checked.ensures.right_number ∙ c.if-checked-ne0.false in
     answer_5 checked (sym c.lengths_fit.ensures ∙ c.if-not-lengths_fit.true)
@@ -29,16 +30,22 @@ returns-then-not-lengths_fit c = let program : Program =
 -- and question 5
 pub well_formed-requires : goal.well_formed-requires
 unfolding lengths_ok
-well_formed-requires c = let program : Program =
+well_formed-requires c =
+    let program : Program =
     program_of c.args.exprs.now c.args.nodes.now c.args.widths.now c.args.vars c.args.chans in
     let state : State = state_of c.args.values.now c.args.marks.now c.args.counts.now in
     let checked : check_number program ≡ 0 = sym c.check-checked.ensures.right_number ∙ c.if-checked-ne0.false in
     let fitting : lengths_ok program state ≡ true = sym c.lengths_fit.ensures ∙ c.if-not-lengths_fit.false in
-    let ok = checked in record { lists_fit = accepted_lists program state ok fitting; widths_len = accepted_widths program state ok fitting }
+    let ok = checked in
+    record {
+      lists_fit = accepted_lists program state ok fitting;
+      widths_len = accepted_widths program state ok fitting;
+    }
 
 pub returns-then-not-well_formed : goal.returns-then-not-well_formed
 unfolding lengths_ok
-returns-then-not-well_formed c = let program : Program =
+returns-then-not-well_formed c =
+    let program : Program =
     program_of c.args.exprs.now c.args.nodes.now c.args.widths.now c.args.vars c.args.chans in
     let state : State = state_of c.args.values.now c.args.marks.now c.args.counts.now in
     let checked : check_number program ≡ 0 = sym c.check-checked.ensures.right_number ∙ c.if-checked-ne0.false in
@@ -50,7 +57,8 @@ returns-then-not-well_formed c = let program : Program =
 -- and question 6
 pub work_cycles-requires : goal.work_cycles-requires
 unfolding lengths_ok
-work_cycles-requires c = let program : Program =
+work_cycles-requires c =
+    let program : Program =
     program_of c.args.exprs.now c.args.nodes.now c.args.widths.now c.args.vars c.args.chans in
     let state : State = state_of c.args.values.now c.args.marks.now c.args.counts.now in
     let checked : check_number program ≡ 0 = sym c.check-checked.ensures.right_number ∙ c.if-checked-ne0.false in
@@ -70,7 +78,8 @@ work_cycles-requires c = let program : Program =
 
 pub returns : goal.returns
 unfolding lengths_ok
-returns c = let program : Program =
+returns c =
+    let program : Program =
     program_of c.args.exprs.now c.args.nodes.now c.args.widths.now c.args.vars c.args.chans in
     let state : State = state_of c.args.values.now c.args.marks.now c.args.counts.now in
     let checked : check_number program ≡ 0 = sym c.check-checked.ensures.right_number ∙ c.if-checked-ne0.false in

@@ -54,7 +54,8 @@ returns-then-node-node_count c =
     let exprs-searched : let P = program in
     Searched (expr_ok P) (expr_count P.exprs) c.first_faulty_expr-expr.result =
     let x = c.args in c.first_faulty_expr-expr.ensures x.nodes.now x.widths.now x.chans in
-    let exprs : let P = program in every (expr_ok P) (below (expr_count P.exprs)) ≡ true = not_found _ _ _ exprs-searched c.if-expr-expr_count.false in
+    let exprs : let P = program in every (expr_ok P) (below (expr_count P.exprs)) ≡ true =
+    not_found _ _ _ exprs-searched c.if-expr-expr_count.false in
     answer_3 program sizes exprs _ c.first_faulty_node-node.ensures c.if-node-node_count.true
 
 -- ---- question 3 is answered yes
@@ -66,9 +67,11 @@ returns-then-name-node_count c =
     let exprs-searched : let P = program in
     Searched (expr_ok P) (expr_count P.exprs) c.first_faulty_expr-expr.result =
     let x = c.args in c.first_faulty_expr-expr.ensures x.nodes.now x.widths.now x.chans in
-    let exprs : let P = program in every (expr_ok P) (below (expr_count P.exprs)) ≡ true = not_found _ _ _ exprs-searched c.if-expr-expr_count.false in
+    let exprs : let P = program in every (expr_ok P) (below (expr_count P.exprs)) ≡ true =
+    not_found _ _ _ exprs-searched c.if-expr-expr_count.false in
     let nodes : let P = program in
-    every (node_ok P.nodes) (below (node_count P.nodes)) ≡ true = not_found _ _ _ c.first_faulty_node-node.ensures c.if-node-node_count.false in
+    every (node_ok P.nodes) (below (node_count P.nodes)) ≡ true =
+    not_found _ _ _ c.first_faulty_node-node.ensures c.if-node-node_count.false in
     let names-searched : let P = program in
     Searched (references_ok P) (node_count P.nodes) c.first_out_of_range-name.result =
     let x = c.args in
@@ -84,14 +87,17 @@ returns c =
     let exprs-searched : let P = program in
     Searched (expr_ok P) (expr_count P.exprs) c.first_faulty_expr-expr.result =
     let x = c.args in c.first_faulty_expr-expr.ensures x.nodes.now x.widths.now x.chans in
-    let exprs : let P = program in every (expr_ok P) (below (expr_count P.exprs)) ≡ true = not_found _ _ _ exprs-searched c.if-expr-expr_count.false in
+    let exprs : let P = program in every (expr_ok P) (below (expr_count P.exprs)) ≡ true =
+    not_found _ _ _ exprs-searched c.if-expr-expr_count.false in
     let nodes : let P = program in
-    every (node_ok P.nodes) (below (node_count P.nodes)) ≡ true = not_found _ _ _ c.first_faulty_node-node.ensures c.if-node-node_count.false in
+    every (node_ok P.nodes) (below (node_count P.nodes)) ≡ true =
+    not_found _ _ _ c.first_faulty_node-node.ensures c.if-node-node_count.false in
     let names-searched : let P = program in
     Searched (references_ok P) (node_count P.nodes) c.first_out_of_range-name.result =
     let x = c.args in
     c.first_out_of_range-name.ensures x.widths.now in let references : let P = program in
-    every (references_ok P) (below (node_count P.nodes)) ≡ true = not_found _ _ _ names-searched c.if-name-node_count.false in
+    every (references_ok P) (below (node_count P.nodes)) ≡ true =
+    not_found _ _ _ names-searched c.if-name-node_count.false in
     let x = c.args in
     let asked = c.ask_widths.ensures x.exprs.now x.nodes.now x.chans in
     answer_last program sizes exprs nodes references asked.0 asked.1

@@ -31,7 +31,8 @@ take_words-requires c =
     let sizes : Sizes = let r = c.sizes_in-sizes.result in sizes_from r.nodes r.exprs r.vars r.chans in
     let file : List ℕ = c.args.file.now in
     let is-file : file_ok file ≡ true = c.requires in
-    let file-length : length file ≡ 2 * exprs_back sizes + 16 = length-by_sizes file is-file sizes c.sizes_in-sizes.ensures in
+    let file-length : length file ≡ 2 * exprs_back sizes + 16 =
+    length-by_sizes file is-file sizes c.sizes_in-sizes.ensures in
     let limits : let n = sizes in
     (3 * n.exprs ≤ 3072) × (5 * n.nodes ≤ 5120) × (n.variables ≤ 256) =
     in_limits file is-file sizes c.sizes_in-sizes.ensures c.if-e-n.false in
@@ -42,7 +43,8 @@ take_words-requires-2 c =
     let sizes : Sizes = let r = c.sizes_in-sizes.result in sizes_from r.nodes r.exprs r.vars r.chans in
     let file : List ℕ = c.args.file.now in
     let is-file : file_ok file ≡ true = c.requires in
-    let file-length : length file ≡ 2 * exprs_back sizes + 16 = length-by_sizes file is-file sizes c.sizes_in-sizes.ensures in
+    let file-length : length file ≡ 2 * exprs_back sizes + 16 =
+    length-by_sizes file is-file sizes c.sizes_in-sizes.ensures in
     let limits : let n = sizes in
     (3 * n.exprs ≤ 3072) × (5 * n.nodes ≤ 5120) × (n.variables ≤ 256) =
     in_limits file is-file sizes c.sizes_in-sizes.ensures c.if-e-n.false in
@@ -53,7 +55,8 @@ take_words-requires-3 c =
     let sizes : Sizes = let r = c.sizes_in-sizes.result in sizes_from r.nodes r.exprs r.vars r.chans in
     let file : List ℕ = c.args.file.now in
     let is-file : file_ok file ≡ true = c.requires in
-    let file-length : length file ≡ 2 * exprs_back sizes + 16 = length-by_sizes file is-file sizes c.sizes_in-sizes.ensures in
+    let file-length : length file ≡ 2 * exprs_back sizes + 16 =
+    length-by_sizes file is-file sizes c.sizes_in-sizes.ensures in
     let limits : let n = sizes in
     (3 * n.exprs ≤ 3072) × (5 * n.nodes ≤ 5120) × (n.variables ≤ 256) =
     in_limits file is-file sizes c.sizes_in-sizes.ensures c.if-e-n.false in
@@ -68,7 +71,8 @@ returns c =
     let limits : let n = sizes in
     (3 * n.exprs ≤ 3072) × (5 * n.nodes ≤ 5120) × (n.variables ≤ 256) =
     in_limits file is-file sizes c.sizes_in-sizes.ensures c.if-e-n.false in
-    let Has : ℕ → ℕ → List ℕ → Type 0 = λ from n list. Copied file is-file sizes c.sizes_in-sizes.ensures from n list in
+    let Has : ℕ → ℕ → List ℕ → Type 0 =
+    λ from n list. Copied file is-file sizes c.sizes_in-sizes.ensures from n list in
     let exprs-copied : Has 0 (3 * sizes.exprs) c.take_words.new.list =
     copied file is-file sizes c.sizes_in-sizes.ensures 0 (3 * sizes.exprs) 3072 _
     c.take_words.ensures limits.0 (omega arith) in

@@ -17,7 +17,8 @@ take_words-requires c =
     let file : List ℕ = c.args.file.now in
     let lent : Parts = let a = c.args in parts_from a.exprs.now a.nodes.now a.values.now a.widths.now in
     let places : let r = c.sizes_in-sizes.result in
-    Placed file (sizes_from r.nodes r.exprs r.vars r.chans) lent = placed file c.requires.0 _ c.sizes_in-sizes.ensures lent c.requires.1 in
+    Placed file (sizes_from r.nodes r.exprs r.vars r.chans) lent =
+    placed file c.requires.0 _ c.sizes_in-sizes.ensures lent c.requires.1 in
     let p = places in (omega (arith, p.size), omega (arith, p.exprs))
 
 pub take_words-requires-2 : goal.take_words-requires-2
@@ -25,7 +26,8 @@ take_words-requires-2 c =
     let file : List ℕ = c.args.file.now in
     let lent : Parts = let a = c.args in parts_from a.exprs.now a.nodes.now a.values.now a.widths.now in
     let places : let r = c.sizes_in-sizes.result in
-    Placed file (sizes_from r.nodes r.exprs r.vars r.chans) lent = placed file c.requires.0 _ c.sizes_in-sizes.ensures lent c.requires.1 in
+    Placed file (sizes_from r.nodes r.exprs r.vars r.chans) lent =
+    placed file c.requires.0 _ c.sizes_in-sizes.ensures lent c.requires.1 in
     let p = places in (omega (arith, p.size), omega (arith, p.nodes))
 
 pub take_words-requires-3 : goal.take_words-requires-3
@@ -33,7 +35,8 @@ take_words-requires-3 c =
     let file : List ℕ = c.args.file.now in
     let lent : Parts = let a = c.args in parts_from a.exprs.now a.nodes.now a.values.now a.widths.now in
     let places : let r = c.sizes_in-sizes.result in
-    Placed file (sizes_from r.nodes r.exprs r.vars r.chans) lent = placed file c.requires.0 _ c.sizes_in-sizes.ensures lent c.requires.1 in
+    Placed file (sizes_from r.nodes r.exprs r.vars r.chans) lent =
+    placed file c.requires.0 _ c.sizes_in-sizes.ensures lent c.requires.1 in
     let p = places in (omega (arith, p.size), omega (arith, p.values))
 
 pub take_words-requires-4 : goal.take_words-requires-4
@@ -41,7 +44,8 @@ take_words-requires-4 c =
     let file : List ℕ = c.args.file.now in
     let lent : Parts = let a = c.args in parts_from a.exprs.now a.nodes.now a.values.now a.widths.now in
     let places : let r = c.sizes_in-sizes.result in
-    Placed file (sizes_from r.nodes r.exprs r.vars r.chans) lent = placed file c.requires.0 _ c.sizes_in-sizes.ensures lent c.requires.1 in
+    Placed file (sizes_from r.nodes r.exprs r.vars r.chans) lent =
+    placed file c.requires.0 _ c.sizes_in-sizes.ensures lent c.requires.1 in
     let p = places in (omega (arith, p.size), omega (arith, p.widths))
 
 pub returns : goal.returns

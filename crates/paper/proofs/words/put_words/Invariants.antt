@@ -8,7 +8,8 @@ use Rattle.paper.proofs.words.put_words.Given as goal
 
 abbrev pub invariant-loop-i : goal.invariant-loop-i
 invariant-loop-i l =
-    (l.i ≤ length l.words) × (length l.file ≡ length l.initial.file) × (l.file ≡ paste l.initial.file l.at (bytes_of l.words) (2 * l.i))
+    (l.i ≤ length l.words) × (length l.file ≡ length l.initial.file)
+    × (l.file ≡ paste l.initial.file l.at (bytes_of l.words) (2 * l.i))
 
 abbrev pub decreases-loop-i : goal.decreases-loop-i
 decreases-loop-i l = length l.words - l.i

@@ -8,7 +8,8 @@ use Rattle.paper.proofs.words.take_words.Given as goal
 
 abbrev pub invariant-loop-i : goal.invariant-loop-i
 invariant-loop-i l =
-    (l.i ≤ l.count) × (length l.list ≡ length l.initial.list) × (l.list ≡ paste l.initial.list 0 (drop l.from (words_of l.file)) l.i)
+    (l.i ≤ l.count) × (length l.list ≡ length l.initial.list)
+    × (l.list ≡ paste l.initial.list 0 (drop l.from (words_of l.file)) l.i)
 
 abbrev pub decreases-loop-i : goal.decreases-loop-i
 decreases-loop-i l = l.count - l.i

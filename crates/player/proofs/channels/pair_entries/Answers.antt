@@ -54,7 +54,12 @@ pair_one-requires c =
     → a_at c.args.nodes.now entry < 256 = λ k.
     let (_, _, _, _, ok) = c.requires.by_index.0 in
     lt_of_lt_of_le (node_out_channel ok entry inside k) ok.sizes.channels_fit in
-    let l = c.loop-k in record { i_bound = (inside, l.invariant.1.only.aged.size); i_bound_2 = in-inside; i_bound_3 = out-inside }
+    let l = c.loop-k in
+    record {
+      i_bound = (inside, l.invariant.1.only.aged.size);
+      i_bound_2 = in-inside;
+      i_bound_3 = out-inside;
+    }
 
 pub returns-then-not-pair_one : goal.returns-then-not-pair_one
 returns-then-not-pair_one c =

@@ -26,7 +26,11 @@ visit_all-requires c =
     let a = c.args in
     c.store.ensures a.exprs.now a.nodes.now marks a.counts.now a.entries.now x in
     let x = c.requires.by_index.1 in
-    let s = kept-stores c.requires.by_index.0 x in record { by_index = (values-after, walking x s c.requires.marks_value); climbing = ((cycle_of x.from x.active, s.paired), climbing x s) }
+    let s = kept-stores c.requires.by_index.0 x in
+    record {
+      by_index = (values-after, walking x s c.requires.marks_value);
+      climbing = ((cycle_of x.from x.active, s.paired), climbing x s);
+    }
 
 pub returns-then-work-eq0 : goal.returns-then-work-eq0
 returns-then-work-eq0 c =
@@ -82,7 +86,11 @@ undo_walks-requires c =
     (cycle_of x.from x.active) s.paired (walking x s c.requires.marks_value) in
     let x = c.requires.by_index.1 in
     let stores = kept-stores c.requires.by_index.0 x in
-    let w = walks c.requires.by_index.0 x in record { lists_fit = lists_fit x stores c.requires.marks_value w; by_index = entries_fit x stores c.requires.marks_value w }
+    let w = walks c.requires.by_index.0 x in
+    record {
+      lists_fit = lists_fit x stores c.requires.marks_value w;
+      by_index = entries_fit x stores c.requires.marks_value w;
+    }
 
 pub returns : goal.returns
 returns c =

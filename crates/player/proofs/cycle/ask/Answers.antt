@@ -22,7 +22,11 @@ use Rattle.player.proofs.cycle.ask.Goals as goal
 
 pub pair_entries-passed-requires : goal.pair_entries-passed-requires
 pair_entries-passed-requires c =
-    let x = c.requires.by_index.2 in record { by_index = ((c.args.exprs.now, x.widths, x.variables, x.channels, x.accepted), x.fit.marks); fresh = c.requires.fresh }
+    let x = c.requires.by_index.2 in
+    record {
+      by_index = ((c.args.exprs.now, x.widths, x.variables, x.channels, x.accepted), x.fit.marks);
+      fresh = c.requires.fresh;
+    }
 
 pub refusal-requires : goal.refusal-requires
 refusal-requires c =
@@ -48,26 +52,37 @@ returns-then-passed-entries c =
 
 -- the cycle that the caller knows of
 pub work_right_sides-requires : goal.work_right_sides-requires
-work_right_sides-requires c = let from : let a = c.args in
+work_right_sides-requires c =
+    let from : let a = c.args in
     let x = c.requires.by_index in
     CycleFrom a.exprs.now a.nodes.now x.0 a.marks.now x.1 a.entries.now = c.requires.by_index.2 in
-    let all-crossed : c.pair_entries-passed.result ≡ crossable c.args.marks.now c.args.entries.now = crossed-all c.pair_entries-passed.ensures.out c.if-passed-entries.false in
+    let all-crossed : c.pair_entries-passed.result ≡ crossable c.args.marks.now c.args.entries.now =
+    crossed-all c.pair_entries-passed.ensures.out c.if-passed-entries.false in
     let active : let a = c.args in
-    are_active a.marks.now a.entries.now ≡ true = is_active from (subst (λ (n : ℕ). length c.args.entries.now ≤ n) all-crossed c.if-passed-entries.false) in
+    are_active a.marks.now a.entries.now ≡ true =
+    is_active from (subst (λ (n : ℕ). length c.args.entries.now ≤ n) all-crossed c.if-passed-entries.false) in
     let paired : let a = c.args in
     (values counts : List ℕ)
     (x : CycleFrom a.exprs.now a.nodes.now values a.marks.now counts a.entries.now)
-    → Pairing (cycle_of x active) a.claims.now c.pair_entries-passed.new.claims = λ values counts x. c.pair_entries-passed.ensures.passed c.if-passed-entries.false (cycle_of x active) in
+    → Pairing (cycle_of x active) a.claims.now c.pair_entries-passed.new.claims =
+    λ values counts x. c.pair_entries-passed.ensures.passed c.if-passed-entries.false (cycle_of x active) in
     let s = c.requires.by_index in
-    let p = paired s.0 s.1 s.2 in record { by_index = (s.0, storing s.2 active p, s.3.memo); unwritten = (p.unwritten, subst (Aged _) (sym p.stamp) p.aged) }
+    let p = paired s.0 s.1 s.2 in
+    record {
+      by_index = (s.0, storing s.2 active p, s.3.memo);
+      unwritten = (p.unwritten, subst (Aged _) (sym p.stamp) p.aged);
+    }
 
 pub mark_again-requires : goal.mark_again-requires
-mark_again-requires c = let from : let a = c.args in
+mark_again-requires c =
+    let from : let a = c.args in
     let x = c.requires.by_index in
     CycleFrom a.exprs.now a.nodes.now x.0 a.marks.now x.1 a.entries.now = c.requires.by_index.2 in
-    let all-crossed : c.pair_entries-passed.result ≡ crossable c.args.marks.now c.args.entries.now = crossed-all c.pair_entries-passed.ensures.out c.if-passed-entries.false in
+    let all-crossed : c.pair_entries-passed.result ≡ crossable c.args.marks.now c.args.entries.now =
+    crossed-all c.pair_entries-passed.ensures.out c.if-passed-entries.false in
     let active : let a = c.args in
-    are_active a.marks.now a.entries.now ≡ true = is_active from (subst (λ (n : ℕ). length c.args.entries.now ≤ n) all-crossed c.if-passed-entries.false) in
+    are_active a.marks.now a.entries.now ≡ true =
+    is_active from (subst (λ (n : ℕ). length c.args.entries.now ≤ n) all-crossed c.if-passed-entries.false) in
     let same = c.pair_entries-passed.ensures.out.same_length in
     λ k l.
     let inside = all_fit c.args.marks.now c.args.entries.now active k l in
@@ -75,16 +90,20 @@ mark_again-requires c = let from : let a = c.args in
 
 -- the marks when all entries are marked again
 pub returns-then-not-work_right_sides : goal.returns-then-not-work_right_sides
-returns-then-not-work_right_sides c = let from : let a = c.args in
+returns-then-not-work_right_sides c =
+    let from : let a = c.args in
     let x = c.requires.by_index in
     CycleFrom a.exprs.now a.nodes.now x.0 a.marks.now x.1 a.entries.now = c.requires.by_index.2 in
-    let all-crossed : c.pair_entries-passed.result ≡ crossable c.args.marks.now c.args.entries.now = crossed-all c.pair_entries-passed.ensures.out c.if-passed-entries.false in
+    let all-crossed : c.pair_entries-passed.result ≡ crossable c.args.marks.now c.args.entries.now =
+    crossed-all c.pair_entries-passed.ensures.out c.if-passed-entries.false in
     let active : let a = c.args in
-    are_active a.marks.now a.entries.now ≡ true = is_active from (subst (λ (n : ℕ). length c.args.entries.now ≤ n) all-crossed c.if-passed-entries.false) in
+    are_active a.marks.now a.entries.now ≡ true =
+    is_active from (subst (λ (n : ℕ). length c.args.entries.now ≤ n) all-crossed c.if-passed-entries.false) in
     let paired : let a = c.args in
     (values counts : List ℕ)
     (x : CycleFrom a.exprs.now a.nodes.now values a.marks.now counts a.entries.now)
-    → Pairing (cycle_of x active) a.claims.now c.pair_entries-passed.new.claims = λ values counts x. c.pair_entries-passed.ensures.passed c.if-passed-entries.false (cycle_of x active) in
+    → Pairing (cycle_of x active) a.claims.now c.pair_entries-passed.new.claims =
+    λ values counts x. c.pair_entries-passed.ensures.passed c.if-passed-entries.false (cycle_of x active) in
     let marks-back : let a = c.args in
     set_all 1 c.pair_entries-passed.new.marks a.entries.now ≡ a.marks.now =
     ap (λ (m : List ℕ). set_all 1 m c.args.entries.now) c.pair_entries-passed.ensures.out.right
@@ -97,16 +116,20 @@ returns-then-not-work_right_sides c = let from : let a = c.args in
     (c.mark_again.ensures ∙ marks-back)
 
 pub returns : goal.returns
-returns c = let from : let a = c.args in
+returns c =
+    let from : let a = c.args in
     let x = c.requires.by_index in
     CycleFrom a.exprs.now a.nodes.now x.0 a.marks.now x.1 a.entries.now = c.requires.by_index.2 in
-    let all-crossed : c.pair_entries-passed.result ≡ crossable c.args.marks.now c.args.entries.now = crossed-all c.pair_entries-passed.ensures.out c.if-passed-entries.false in
+    let all-crossed : c.pair_entries-passed.result ≡ crossable c.args.marks.now c.args.entries.now =
+    crossed-all c.pair_entries-passed.ensures.out c.if-passed-entries.false in
     let active : let a = c.args in
-    are_active a.marks.now a.entries.now ≡ true = is_active from (subst (λ (n : ℕ). length c.args.entries.now ≤ n) all-crossed c.if-passed-entries.false) in
+    are_active a.marks.now a.entries.now ≡ true =
+    is_active from (subst (λ (n : ℕ). length c.args.entries.now ≤ n) all-crossed c.if-passed-entries.false) in
     let paired : let a = c.args in
     (values counts : List ℕ)
     (x : CycleFrom a.exprs.now a.nodes.now values a.marks.now counts a.entries.now)
-    → Pairing (cycle_of x active) a.claims.now c.pair_entries-passed.new.claims = λ values counts x. c.pair_entries-passed.ensures.passed c.if-passed-entries.false (cycle_of x active) in
+    → Pairing (cycle_of x active) a.claims.now c.pair_entries-passed.new.claims =
+    λ values counts x. c.pair_entries-passed.ensures.passed c.if-passed-entries.false (cycle_of x active) in
     λ values counts x carried.
     let p = paired values counts x in
     answer_none x active p.free p.stamp

@@ -11,7 +11,11 @@ pub next_moment-requires : goal.next_moment-requires
 next_moment-requires c =
     let a = c.args in
     let x = c.requires.5 in
-    let s = c.store_all.ensures in record { work_len = stored_size x s; by_index = past_rewritten _ a.values.now a.work.now c.store_all.new.work s.kept x.memo }
+    let s = c.store_all.ensures in
+    record {
+      work_len = stored_size x s;
+      by_index = past_rewritten _ a.values.now a.work.now c.store_all.new.work s.kept x.memo;
+    }
 
 pub returns-then-store_all : goal.returns-then-store_all
 returns-then-store_all c =

@@ -16,7 +16,8 @@ use Rattle.player.proofs.cycle.work_cycle.Goals as goal
 
 pub returns-then-book-m : goal.returns-then-book-m
 returns-then-book-m c =
-    let program : List ℕ → ℕ → ℕ → Program = λ widths vars chans. program_of c.args.exprs.now c.args.nodes.now widths vars chans in
+    let program : List ℕ → ℕ → ℕ → Program =
+    λ widths vars chans. program_of c.args.exprs.now c.args.nodes.now widths vars chans in
     let state : State = state_of c.args.values.now c.args.marks.now c.args.counts.now in
     let counted : c.tally-m.result ≡ mark_count c.args.marks.now = c.tally-m.ensures ∙ c.requires.by_index.4.tally in
     λ widths vars chans r carried.
@@ -31,24 +32,32 @@ slice_bounds-entries-end c =
 
 pub ask-number-requires : goal.ask-number-requires
 ask-number-requires c =
-    let program : List ℕ → ℕ → ℕ → Program = λ widths vars chans. program_of c.args.exprs.now c.args.nodes.now widths vars chans in
+    let program : List ℕ → ℕ → ℕ → Program =
+    λ widths vars chans. program_of c.args.exprs.now c.args.nodes.now widths vars chans in
     let state : State = state_of c.args.values.now c.args.marks.now c.args.counts.now in
     let counted : c.tally-m.result ≡ mark_count c.args.marks.now = c.tally-m.ensures ∙ c.requires.by_index.4.tally in
     let enough : c.tally-m.result ≤ length c.args.book.now = omega arith in
     let from : (widths : List ℕ) (vars chans : ℕ) → Runnable (program widths vars chans) state
     → CycleFrom c.args.exprs.now c.args.nodes.now c.args.values.now c.args.marks.now
-    c.args.counts.now (take c.tally-m.result c.args.book.now) = λ widths vars chans r. cycle_from c.args.book.now r counted enough in
-    let (widths, vars, chans, r, carried) = c.requires.by_index in record { by_index = (c.args.values.now, c.args.counts.now, from widths vars chans r, carried); fresh = c.requires.fresh }
+    c.args.counts.now (take c.tally-m.result c.args.book.now) =
+    λ widths vars chans r. cycle_from c.args.book.now r counted enough in
+    let (widths, vars, chans, r, carried) = c.requires.by_index in
+    record {
+      by_index = (c.args.values.now, c.args.counts.now, from widths vars chans r, carried);
+      fresh = c.requires.fresh;
+    }
 
 pub returns-then-number-ne0 : goal.returns-then-number-ne0
 returns-then-number-ne0 c =
-    let program : List ℕ → ℕ → ℕ → Program = λ widths vars chans. program_of c.args.exprs.now c.args.nodes.now widths vars chans in
+    let program : List ℕ → ℕ → ℕ → Program =
+    λ widths vars chans. program_of c.args.exprs.now c.args.nodes.now widths vars chans in
     let state : State = state_of c.args.values.now c.args.marks.now c.args.counts.now in
     let counted : c.tally-m.result ≡ mark_count c.args.marks.now = c.tally-m.ensures ∙ c.requires.by_index.4.tally in
     let enough : c.tally-m.result ≤ length c.args.book.now = omega arith in
     let from : (widths : List ℕ) (vars chans : ℕ) → Runnable (program widths vars chans) state
     → CycleFrom c.args.exprs.now c.args.nodes.now c.args.values.now c.args.marks.now
-    c.args.counts.now (take c.tally-m.result c.args.book.now) = λ widths vars chans r. cycle_from c.args.book.now r counted enough in
+    c.args.counts.now (take c.tally-m.result c.args.book.now) =
+    λ widths vars chans r. cycle_from c.args.book.now r counted enough in
     let asked : (widths : List ℕ) (vars chans : ℕ)
     (r : Runnable (program widths vars chans) state)
     → (let a = c.args in
@@ -63,13 +72,15 @@ returns-then-number-ne0 c =
 
 pub advance-requires : goal.advance-requires
 advance-requires c =
-    let program : List ℕ → ℕ → ℕ → Program = λ widths vars chans. program_of c.args.exprs.now c.args.nodes.now widths vars chans in
+    let program : List ℕ → ℕ → ℕ → Program =
+    λ widths vars chans. program_of c.args.exprs.now c.args.nodes.now widths vars chans in
     let state : State = state_of c.args.values.now c.args.marks.now c.args.counts.now in
     let counted : c.tally-m.result ≡ mark_count c.args.marks.now = c.tally-m.ensures ∙ c.requires.by_index.4.tally in
     let enough : c.tally-m.result ≤ length c.args.book.now = omega arith in
     let from : (widths : List ℕ) (vars chans : ℕ) → Runnable (program widths vars chans) state
     → CycleFrom c.args.exprs.now c.args.nodes.now c.args.values.now c.args.marks.now
-    c.args.counts.now (take c.tally-m.result c.args.book.now) = λ widths vars chans r. cycle_from c.args.book.now r counted enough in
+    c.args.counts.now (take c.tally-m.result c.args.book.now) =
+    λ widths vars chans r. cycle_from c.args.book.now r counted enough in
     let asked : (widths : List ℕ) (vars chans : ℕ)
     (r : Runnable (program widths vars chans) state)
     → (let a = c.args in
@@ -81,17 +92,23 @@ advance-requires c =
     let none = c.if-number-ne0.false in
     let (widths, vars, chans, r, carried) = c.requires.by_index in
     let x = from widths vars chans r in
-    let answer = asked widths vars chans r carried in record { by_index = (c.args.marks.now, answer.started none); marks_value = answer.cleared none ∙ ap (λ (n : ℕ). replicate n 0) x.fit.marks }
+    let answer = asked widths vars chans r carried in
+    record {
+      by_index = (c.args.marks.now, answer.started none);
+      marks_value = answer.cleared none ∙ ap (λ (n : ℕ). replicate n 0) x.fit.marks;
+    }
 
 pub returns : goal.returns
 returns c =
-    let program : List ℕ → ℕ → ℕ → Program = λ widths vars chans. program_of c.args.exprs.now c.args.nodes.now widths vars chans in
+    let program : List ℕ → ℕ → ℕ → Program =
+    λ widths vars chans. program_of c.args.exprs.now c.args.nodes.now widths vars chans in
     let state : State = state_of c.args.values.now c.args.marks.now c.args.counts.now in
     let counted : c.tally-m.result ≡ mark_count c.args.marks.now = c.tally-m.ensures ∙ c.requires.by_index.4.tally in
     let enough : c.tally-m.result ≤ length c.args.book.now = omega arith in
     let from : (widths : List ℕ) (vars chans : ℕ) → Runnable (program widths vars chans) state
     → CycleFrom c.args.exprs.now c.args.nodes.now c.args.values.now c.args.marks.now
-    c.args.counts.now (take c.tally-m.result c.args.book.now) = λ widths vars chans r. cycle_from c.args.book.now r counted enough in
+    c.args.counts.now (take c.tally-m.result c.args.book.now) =
+    λ widths vars chans r. cycle_from c.args.book.now r counted enough in
     let asked : (widths : List ℕ) (vars chans : ℕ)
     (r : Runnable (program widths vars chans) state)
     → (let a = c.args in

@@ -32,14 +32,24 @@ fill-requires c =
     let P = program_of c.args.exprs.now c.args.nodes.now c.args.widths.now c.requires.0 c.requires.1 in
     let a = accepted P c.requires.2.accepted in
     let sizes = a.sizes in
-    let fit = fits_lengths P _ c.requires.2.ready.fit in record { nodes_bound = (sizes.nodes_fit, omega (arith, fit.values, sizes.variables_fit), omega (arith, fit.marks, sizes.nodes_fit)); widths_len_bound = (omega (arith, a.widths_fit.as_many, sizes.variables_fit), each_width P a.widths_fit); work_value = refl }
+    let fit = fits_lengths P _ c.requires.2.ready.fit in
+    record {
+      nodes_bound = (
+        sizes.nodes_fit,
+        omega (arith, fit.values, sizes.variables_fit),
+        omega (arith, fit.marks, sizes.nodes_fit),
+      );
+      widths_len_bound = (omega (arith, a.widths_fit.as_many, sizes.variables_fit), each_width P a.widths_fit);
+      work_value = refl;
+    }
 
 pub loop-worked-init : goal.loop-worked-init
 loop-worked-init c = (λ vars chans r. none_worked r, zero-le, c.fill.ensures _, aged_first, refl, refl, refl)
 
 pub returns-then-m-eq0 : goal.returns-then-m-eq0
 returns-then-m-eq0 c =
-    let counted : c.tally-m.result ≡ mark_count c.loop-worked.marks = c.tally-m.ensures ∙ c.loop-worked.invariant.2.tally in
+    let counted : c.tally-m.result ≡ mark_count c.loop-worked.marks =
+    c.tally-m.ensures ∙ c.loop-worked.invariant.2.tally in
     let stop = c.stopped-then-m-eq0.ensures in
     λ vars chans r. rw (stop.0, stop.1, stop.2)
     (no_mark r (c.loop-worked.invariant.0 vars chans r) counted c.if-m-eq0.true)
@@ -48,11 +58,16 @@ pub work_cycle-number-requires : goal.work_cycle-number-requires
 work_cycle-number-requires c =
     let l = c.loop-worked in
     let r = c.requires in
-    let a = c.args in record { by_index = (a.widths.now, r.0, r.1, (l.invariant.0 r.0 r.1 r.2).runnable, l.invariant.2); fresh = fresh_next l.invariant.3 }
+    let a = c.args in
+    record {
+      by_index = (a.widths.now, r.0, r.1, (l.invariant.0 r.0 r.1 r.2).runnable, l.invariant.2);
+      fresh = fresh_next l.invariant.3;
+    }
 
 pub returns-then-number-ne0 : goal.returns-then-number-ne0
 returns-then-number-ne0 c =
-    let counted : c.tally-m.result ≡ mark_count c.loop-worked.marks = c.tally-m.ensures ∙ c.loop-worked.invariant.2.tally in
+    let counted : c.tally-m.result ≡ mark_count c.loop-worked.marks =
+    c.tally-m.ensures ∙ c.loop-worked.invariant.2.tally in
     let left : State =
     let lists = c.work_cycle-number.new in state_of lists.values lists.marks lists.counts in
     let program : ℕ → ℕ → Program = λ vars chans.
@@ -78,7 +93,8 @@ returns-then-number-ne0 c =
 -- the entries read are entries of the book
 pub overflow_add-read : goal.overflow_add-read
 overflow_add-read c =
-    let counted : c.tally-m.result ≡ mark_count c.loop-worked.marks = c.tally-m.ensures ∙ c.loop-worked.invariant.2.tally in
+    let counted : c.tally-m.result ≡ mark_count c.loop-worked.marks =
+    c.tally-m.ensures ∙ c.loop-worked.invariant.2.tally in
     let left : State =
     let lists = c.work_cycle-number.new in state_of lists.values lists.marks lists.counts in
     let program : ℕ → ℕ → Program = λ vars chans.
@@ -118,7 +134,8 @@ overflow_add-worked c =
 
 pub loop-worked-preserved : goal.loop-worked-preserved
 loop-worked-preserved c =
-    let counted : c.tally-m.result ≡ mark_count c.loop-worked.marks = c.tally-m.ensures ∙ c.loop-worked.invariant.2.tally in
+    let counted : c.tally-m.result ≡ mark_count c.loop-worked.marks =
+    c.tally-m.ensures ∙ c.loop-worked.invariant.2.tally in
     let left : State =
     let lists = c.work_cycle-number.new in state_of lists.values lists.marks lists.counts in
     let program : ℕ → ℕ → Program = λ vars chans.
@@ -164,4 +181,8 @@ loop-worked-preserved c =
 pub returns : goal.returns
 returns c =
     let stop = c.stopped-2.ensures in
-    λ vars chans r. rw (stop.0, stop.1, stop.2) (all-worked r (c.loop-worked.invariant.0 vars chans r) c.loop-worked-test.false)
+    λ vars chans r. rw (
+      stop.0,
+      stop.1,
+      stop.2,
+    ) (all-worked r (c.loop-worked.invariant.0 vars chans r) c.loop-worked-test.false)

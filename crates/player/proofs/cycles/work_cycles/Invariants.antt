@@ -13,11 +13,15 @@ use Rattle.player.proofs.cycles.work_cycles.Given as goal
 
 abbrev pub invariant-loop-worked : goal.invariant-loop-worked
 invariant-loop-worked l =
-    ((vars chans : ℕ) → Runnable (program_of l.exprs l.nodes l.widths vars chans) (state_of l.initial.values l.initial.marks l.initial.counts)
-    → Progress (program_of l.exprs l.nodes l.widths vars chans) l.cycles (state_of l.initial.values l.initial.marks l.initial.counts) l.book
+    ((vars chans : ℕ)
+    → Runnable (program_of l.exprs l.nodes l.widths vars chans)
+    (state_of l.initial.values l.initial.marks l.initial.counts)
+    → Progress (program_of l.exprs l.nodes l.widths vars chans) l.cycles
+    (state_of l.initial.values l.initial.marks l.initial.counts) l.book
     (state_of l.values l.marks l.counts) l.worked l.read)
     × (l.read ≤ length l.book) × Carried l.exprs l.nodes l.widths l.values l.marks l.work × Aged l.claims l.worked
-    × (length l.values ≡ length l.initial.values) × (length l.marks ≡ length l.initial.marks) × (length l.counts ≡ length l.initial.counts)
+    × (length l.values ≡ length l.initial.values) × (length l.marks ≡ length l.initial.marks)
+    × (length l.counts ≡ length l.initial.counts)
 
 abbrev pub decreases-loop-worked : goal.decreases-loop-worked
 decreases-loop-worked l =

@@ -27,7 +27,8 @@ child_of : {exprs nodes values marks counts work : List ℕ} → Walking exprs n
     → h < node_count nodes → h < j → j < end_at nodes h → Sibling nodes h j
 child_of w h j = sibling _ w.walkable.nodes_ok h j
 
-first_of_seq : {exprs nodes values marks counts work : List ℕ} → Walking exprs nodes values marks counts work → (h : ℕ)
+first_of_seq : {exprs nodes values marks counts work : List ℕ} → Walking exprs nodes values marks counts work
+    → (h : ℕ)
     → h < node_count nodes → kind_word nodes h ≡ 1 → Sibling nodes h (suc h)
 first_of_seq w h l k = first_sibling _ w.walkable.nodes_ok h l (ap is_leaf (kind_seq _ k))
 

@@ -5,7 +5,11 @@ use Rattle.player.proofs.enter.holds.Goals as goal
 pub value-requires : goal.value-requires
 value-requires c =
     let (values, _, _, w) = c.requires.by_index in
-    let given = c.requires.i_bound in record { e_bound = rw c.a_of.ensures (w.walkable.conditions c.args.i given.0 given.1 given.2); by_index = (values, w.walkable.formulas, w.memo) }
+    let given = c.requires.i_bound in
+    record {
+      e_bound = rw c.a_of.ensures (w.walkable.conditions c.args.i given.0 given.1 given.2);
+      by_index = (values, w.walkable.formulas, w.memo);
+    }
 
 pub returns : goal.returns
 returns c =

@@ -13,7 +13,11 @@ pub returns-then-not-is_marked : goal.returns-then-not-is_marked
 returns-then-not-is_marked c =
     let told = c.is_marked in
     let l = c.loop-k in
-    let m = sym told.ensures ∙ not-true told.result (not_from_false _ c.if-not-is_marked.true) in record { value = crossed_most l.invariant c.loop-k-test.true m; marks_after = l.invariant.right }
+    let m = sym told.ensures ∙ not-true told.result (not_from_false _ c.if-not-is_marked.true) in
+    record {
+      value = crossed_most l.invariant c.loop-k-test.true m;
+      marks_after = l.invariant.right;
+    }
 
 pub cross-requires : goal.cross-requires
 cross-requires c =
@@ -30,4 +34,8 @@ loop-k-preserved c =
 
 pub returns : goal.returns
 returns c =
-    let l = c.loop-k in record { value = crossed-all l.invariant c.loop-k-test.false; marks_after = l.invariant.right }
+    let l = c.loop-k in
+    record {
+      value = crossed-all l.invariant c.loop-k-test.false;
+      marks_after = l.invariant.right;
+    }

@@ -27,4 +27,5 @@ returns-then-noted c =
     λ values f m.
     let fit = f.exprs_fit in
     worked_at_once a.exprs.now values a.work.now m a.e noted.result.value
-    (noted.ensures.value_value ∙ m.known a.e (omega arith) (eqb-true _ _ (sym noted.ensures.known_value ∙ c.if-noted.true)))
+    (noted.ensures.value_value
+    ∙ m.known a.e (omega arith) (eqb-true _ _ (sym noted.ensures.known_value ∙ c.if-noted.true)))

@@ -13,7 +13,11 @@ returns-then-own c =
 pub step-made-requires : goal.step-made-requires
 step-made-requires c =
     let l = c.requires.e_bound in let (values, f, m) = c.requires.by_index in
-    let own = c.plain-own in record { e_bound = (l, (own.ensures values f m).two c.if-own.false); by_index = (values, f, m) }
+    let own = c.plain-own in
+    record {
+      e_bound = (l, (own.ensures values f m).two c.if-own.false);
+      by_index = (values, f, m);
+    }
 
 pub returns-then-made : goal.returns-then-made
 returns-then-made c =
@@ -26,4 +30,8 @@ returns-then-made c =
 pub compound-requires : goal.compound-requires
 compound-requires c =
     let l = c.requires.e_bound in let (values, f, m) = c.requires.by_index in
-    let made = c.step-made in record { e_bound = (l, (made.ensures values f m).two c.if-made.false); by_index = (values, f, m) }
+    let made = c.step-made in
+    record {
+      e_bound = (l, (made.ensures values f m).two c.if-made.false);
+      by_index = (values, f, m);
+    }

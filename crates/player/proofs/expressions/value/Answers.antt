@@ -13,4 +13,8 @@ returns-then-own c =
 pub compound-requires : goal.compound-requires
 compound-requires c =
     let l = c.requires.e_bound in let (values, f, m) = c.requires.by_index in
-    let own = c.plain-own in record { e_bound = (l, (own.ensures values f m).two c.if-own.false); by_index = (values, f, m) }
+    let own = c.plain-own in
+    record {
+      e_bound = (l, (own.ensures values f m).two c.if-own.false);
+      by_index = (values, f, m);
+    }

@@ -24,7 +24,11 @@ enter_child-outcome-requires c =
     let (values, x) = c.requires.by_index in
     let (_, y) = c.holds.ensures.by_index_2 values _ _ x in
     let leafless = kind_on_condition _ c.requires.h_bound.1 c.requires.h_bound.2 in
-    let child = (first_sibling _ x.walkable.nodes_ok c.args.h c.requires.h_bound.0 leafless).is_node in record { by_index = (values, y); i_bound = omega arith }
+    let child = (first_sibling _ x.walkable.nodes_ok c.args.h c.requires.h_bound.0 leafless).is_node in
+    record {
+      by_index = (values, y);
+      i_bound = omega arith;
+    }
 
 pub returns : goal.returns
 returns c = λ values i x l p.

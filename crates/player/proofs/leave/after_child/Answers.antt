@@ -17,7 +17,11 @@ returns-then-end_of-next c = λ values x.
 pub enter_child-outcome-requires : goal.enter_child-outcome-requires
 enter_child-outcome-requires c =
     let b = (is_parent _ _ _ c.requires.i_bound.1).lower in
-    let f = end_fits _ c.requires.by_index.1.walkable.nodes_ok c.args.h (omega arith) in record { by_index = c.requires.by_index; i_bound = omega arith }
+    let f = end_fits _ c.requires.by_index.1.walkable.nodes_ok c.args.h (omega arith) in
+    record {
+      by_index = c.requires.by_index;
+      i_bound = omega arith;
+    }
 
 pub returns : goal.returns
 returns c = λ values x.

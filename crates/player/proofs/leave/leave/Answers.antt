@@ -12,7 +12,11 @@ turn-node-requires c =
     let l = c.loop-node in
     let pre = c.requires in
     let (values, x) = pre.by_index in
-    let u = l.invariant.1 values x in record { by_index = (values, u.walking); i_nonzero = (c.loop-node-test.true, l.invariant.0, underway_climbing u pre.i_bound.1) }
+    let u = l.invariant.1 values x in
+    record {
+      by_index = (values, u.walking);
+      i_nonzero = (c.loop-node-test.true, l.invariant.0, underway_climbing u pre.i_bound.1);
+    }
 
 pub loop-node-smaller : goal.loop-node-smaller
 loop-node-smaller c =

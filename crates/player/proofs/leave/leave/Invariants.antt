@@ -12,7 +12,8 @@ abbrev pub invariant-loop-node : goal.invariant-loop-node
 invariant-loop-node l =
     (l.node < node_count l.nodes)
     × ((values : List ℕ) → Walking l.exprs l.nodes values l.initial.marks l.initial.counts l.initial.work
-    → Underway l.exprs l.nodes values l.initial.work (leave (holds_in l.exprs values) l.nodes l.i (walk_in l.initial.marks l.initial.counts l.initial.work))
+    → Underway l.exprs l.nodes values l.initial.work
+    (leave (holds_in l.exprs values) l.nodes l.i (walk_in l.initial.marks l.initial.counts l.initial.work))
     (leave (holds_in l.exprs values) l.nodes l.node (walk_in l.marks l.counts l.work)) l.marks l.counts l.work)
 
 -- what falls in each turn (`Turned`)

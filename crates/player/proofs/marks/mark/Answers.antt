@@ -29,4 +29,8 @@ returns-then-marks-at-ne1 c =
 pub returns-else-marks-at-ne1 : goal.returns-else-marks-at-ne1
 returns-else-marks-at-ne1 c =
     let a = c.args in
-    let (tallied, inside) = c.requires in record { marks_after = sym (marked_twice a.marks.now a.i c.if-marks-at-ne1.false); work_after = sym (ap (λ (n : ℕ). set a.work.now 2305 n) (sym tallied.tally) ∙ set-get_or a.work.now 2305 0) }
+    let (tallied, inside) = c.requires in
+    record {
+      marks_after = sym (marked_twice a.marks.now a.i c.if-marks-at-ne1.false);
+      work_after = sym (ap (λ (n : ℕ). set a.work.now 2305 n) (sym tallied.tally) ∙ set-get_or a.work.now 2305 0);
+    }

@@ -11,7 +11,8 @@ use Rattle.player.proofs.passes.next_value.Goals as goal
 
 -- an op up to VARIABLE that is not NUMBER
 pub value_of_variable-requires : goal.value_of_variable-requires
-value_of_variable-requires c = let variable : let a = c.args in
+value_of_variable-requires c =
+    let variable : let a = c.args in
     get_or a.exprs.now (3 * a.i) 0 ≡ 1 = let op = c.op_of-op.ensures in omega arith in
     let (l, at) = c.requires.i_bound in let (values, f, w) = c.requires.by_index in
     let p = c.p_of-p in
@@ -46,7 +47,8 @@ returns-then-op-eq-NUMBER c =
     ∙ sym (value_of_number a.exprs.now values a.i c.requires.i_bound.0 op)
 
 pub returns : goal.returns
-returns c = let variable : let a = c.args in
+returns c =
+    let variable : let a = c.args in
     get_or a.exprs.now (3 * a.i) 0 ≡ 1 = let op = c.op_of-op.ensures in omega arith in
     let a = c.args in
     let p = c.p_of-p in

@@ -36,7 +36,11 @@ pub next_value-last-requires : goal.next_value-last-requires
 next_value-last-requires c =
     let l = c.loop-i in
     let (u, v) = c.requires.e_bound in
-    let ((values, f, m), moments) = c.requires.by_index in record { i_bound = (omega arith, l.invariant.1); by_index = (values, f, l.invariant.3 values f m) }
+    let ((values, f, m), moments) = c.requires.by_index in
+    record {
+      i_bound = (omega arith, l.invariant.1);
+      by_index = (values, f, l.invariant.3 values f m);
+    }
 
 pub overflow_add-work : goal.overflow_add-work
 overflow_add-work c =
@@ -63,7 +67,8 @@ loop-i-preserved c =
     let next = c.next_value-last in (
       omega arith,
       λ p. omega arith,
-      λ j w. get_or-set_other l.work (256 + l.i) j next.result 0 (λ (d : j ≡ 256 + l.i). omega arith) ∙ l.invariant.2 j w,
+      λ j w. get_or-set_other l.work (256 + l.i) j next.result 0 (λ (d : j ≡ 256 + l.i). omega arith)
+          ∙ l.invariant.2 j w,
       λ values f m.
           let w = l.invariant.3 values f m in
           worked_next c.args.exprs.now values l.work l.i l.last w next.result (omega arith)
@@ -74,4 +79,8 @@ pub returns : goal.returns
 returns c =
     let l = c.loop-i in
     let a = c.args in
-    let end : l.i ≡ a.e + 1 = omega (arith, l.invariant.0, c.loop-i-test.false) in record { by_index_2 = λ values f m. rw end at (l.invariant.3 values f m); kept_from = l.invariant.2 }
+    let end : l.i ≡ a.e + 1 = omega (arith, l.invariant.0, c.loop-i-test.false) in
+    record {
+      by_index_2 = λ values f m. rw end at (l.invariant.3 values f m);
+      kept_from = l.invariant.2;
+    }

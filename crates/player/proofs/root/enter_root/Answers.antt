@@ -24,7 +24,8 @@ slice_bounds-enter_node-end-2 c = sym (length-take-le _ _ (omega arith))
 -- ---- before node 0 is entered
 -- the front of a scratch list that is lent
 pub enter_node-requires : goal.enter_node-requires
-enter_node-requires c = let walkable : Walkable c.args.exprs.now c.args.nodes.now c.args.values.now =
+enter_node-requires c =
+    let walkable : Walkable c.args.exprs.now c.args.nodes.now c.args.values.now =
     let (widths, chans, accepted) = c.requires.by_index in
     let values = c.args.values.now in
     accepted_walkable (program_of c.args.exprs.now c.args.nodes.now widths (length values) chans) values
@@ -37,7 +38,11 @@ enter_node-requires c = let walkable : Walkable c.args.exprs.now c.args.nodes.no
     c.fill_values.new.work =
     let filled = c.fill_values.ensures in
     rw blank (root_walking walkable (filled.by_index c.args.exprs.now) filled.kept_from) in
-    let (_, _, accepted) = c.requires.by_index in record { by_index = (c.args.values.now, walking); i_bound = accepted.sizes.some_node }
+    let (_, _, accepted) = c.requires.by_index in
+    record {
+      by_index = (c.args.values.now, walking);
+      i_bound = accepted.sizes.some_node;
+    }
 
 -- ---- node 0 is entered
 -- the marks and the counts that came back in the scratch lists, and `work`
@@ -60,7 +65,8 @@ returns-then-work-ne0 c widths vars chans =
     let new_marks : List ℕ = c.enter_node.new.marks in
     let new_counts : List ℕ = c.enter_node.new.counts in
     let new_work : List ℕ = c.enter_node.new.work in
-    let walked : (widths : List ℕ) (vars chans : ℕ) → root_walk (program_of c.args.exprs.now c.args.nodes.now widths vars chans) c.args.values.now
+    let walked : (widths : List ℕ) (vars chans : ℕ)
+    → root_walk (program_of c.args.exprs.now c.args.nodes.now widths vars chans) c.args.values.now
     ≡ walk_in new_marks new_counts new_work = λ widths vars chans.
     let (_, _, accepted) = c.requires.by_index in
     let filled = c.fill_values in
@@ -70,36 +76,42 @@ returns-then-work-ne0 c widths vars chans =
     nothing_written new_work (walked widths vars chans) _ _ c.if-work-ne0.true
 
 pub slice_bounds-new_marks-end-2 : goal.slice_bounds-new_marks-end-2
-slice_bounds-new_marks-end-2 c = let walkable : Walkable c.args.exprs.now c.args.nodes.now c.args.values.now =
+slice_bounds-new_marks-end-2 c =
+    let walkable : Walkable c.args.exprs.now c.args.nodes.now c.args.values.now =
     let (widths, chans, accepted) = c.requires.by_index in
     let values = c.args.values.now in
     accepted_walkable (program_of c.args.exprs.now c.args.nodes.now widths (length values) chans) values
     accepted refl in
     let inside : length c.args.marks.now ≤ 1024 = omega (arith, c.requires.marks_len.0, walkable.nodes_fit) in
     let new_marks : List ℕ = c.enter_node.new.marks in
-    let marks-back : Returned (replicate 1024 0) new_marks (length c.args.marks.now) = returned _ new_marks _ inside c.enter_node.auto.marks in
+    let marks-back : Returned (replicate 1024 0) new_marks (length c.args.marks.now) =
+    returned _ new_marks _ inside c.enter_node.auto.marks in
     marks-back.inside
 
 pub slice_bounds-copy_bytes-end : goal.slice_bounds-copy_bytes-end
-slice_bounds-copy_bytes-end c = let walkable : Walkable c.args.exprs.now c.args.nodes.now c.args.values.now =
+slice_bounds-copy_bytes-end c =
+    let walkable : Walkable c.args.exprs.now c.args.nodes.now c.args.values.now =
     let (widths, chans, accepted) = c.requires.by_index in
     let values = c.args.values.now in
     accepted_walkable (program_of c.args.exprs.now c.args.nodes.now widths (length values) chans) values
     accepted refl in
     let inside : length c.args.marks.now ≤ 1024 = omega (arith, c.requires.marks_len.0, walkable.nodes_fit) in
     let new_marks : List ℕ = c.enter_node.new.marks in
-    let marks-back : Returned (replicate 1024 0) new_marks (length c.args.marks.now) = returned _ new_marks _ inside c.enter_node.auto.marks in
+    let marks-back : Returned (replicate 1024 0) new_marks (length c.args.marks.now) =
+    returned _ new_marks _ inside c.enter_node.auto.marks in
     marks-back.back_length
 
 pub copy_bytes-requires : goal.copy_bytes-requires
-copy_bytes-requires c = let walkable : Walkable c.args.exprs.now c.args.nodes.now c.args.values.now =
+copy_bytes-requires c =
+    let walkable : Walkable c.args.exprs.now c.args.nodes.now c.args.values.now =
     let (widths, chans, accepted) = c.requires.by_index in
     let values = c.args.values.now in
     accepted_walkable (program_of c.args.exprs.now c.args.nodes.now widths (length values) chans) values
     accepted refl in
     let inside : length c.args.marks.now ≤ 1024 = omega (arith, c.requires.marks_len.0, walkable.nodes_fit) in
     let new_marks : List ℕ = c.enter_node.new.marks in
-    let marks-back : Returned (replicate 1024 0) new_marks (length c.args.marks.now) = returned _ new_marks _ inside c.enter_node.auto.marks in
+    let marks-back : Returned (replicate 1024 0) new_marks (length c.args.marks.now) =
+    returned _ new_marks _ inside c.enter_node.auto.marks in
     sym marks-back.back_length
 
 pub slice_bounds-new_counts-end-2 : goal.slice_bounds-new_counts-end-2
@@ -111,34 +123,40 @@ slice_bounds-new_counts-end-2 c =
     accepted refl in
     let inside : length c.args.marks.now ≤ 1024 = omega (arith, c.requires.marks_len.0, walkable.nodes_fit) in
     let new_counts : List ℕ = c.enter_node.new.counts in
-    let counts-back : Returned (replicate 1024 0) new_counts (length c.args.marks.now) = returned _ new_counts _ inside c.enter_node.auto.counts in
+    let counts-back : Returned (replicate 1024 0) new_counts (length c.args.marks.now) =
+    returned _ new_counts _ inside c.enter_node.auto.counts in
     counts-back.inside
 
 pub slice_bounds-copy_words-end : goal.slice_bounds-copy_words-end
-slice_bounds-copy_words-end c = let walkable : Walkable c.args.exprs.now c.args.nodes.now c.args.values.now =
+slice_bounds-copy_words-end c =
+    let walkable : Walkable c.args.exprs.now c.args.nodes.now c.args.values.now =
     let (widths, chans, accepted) = c.requires.by_index in
     let values = c.args.values.now in
     accepted_walkable (program_of c.args.exprs.now c.args.nodes.now widths (length values) chans) values
     accepted refl in
     let inside : length c.args.marks.now ≤ 1024 = omega (arith, c.requires.marks_len.0, walkable.nodes_fit) in
     let new_counts : List ℕ = c.enter_node.new.counts in
-    let counts-back : Returned (replicate 1024 0) new_counts (length c.args.marks.now) = returned _ new_counts _ inside c.enter_node.auto.counts in
+    let counts-back : Returned (replicate 1024 0) new_counts (length c.args.marks.now) =
+    returned _ new_counts _ inside c.enter_node.auto.counts in
     counts-back.back_length
 
 pub copy_words-requires : goal.copy_words-requires
-copy_words-requires c = let walkable : Walkable c.args.exprs.now c.args.nodes.now c.args.values.now =
+copy_words-requires c =
+    let walkable : Walkable c.args.exprs.now c.args.nodes.now c.args.values.now =
     let (widths, chans, accepted) = c.requires.by_index in
     let values = c.args.values.now in
     accepted_walkable (program_of c.args.exprs.now c.args.nodes.now widths (length values) chans) values
     accepted refl in
     let inside : length c.args.marks.now ≤ 1024 = omega (arith, c.requires.marks_len.0, walkable.nodes_fit) in
     let new_counts : List ℕ = c.enter_node.new.counts in
-    let counts-back : Returned (replicate 1024 0) new_counts (length c.args.marks.now) = returned _ new_counts _ inside c.enter_node.auto.counts in
+    let counts-back : Returned (replicate 1024 0) new_counts (length c.args.marks.now) =
+    returned _ new_counts _ inside c.enter_node.auto.counts in
     let fit = c.requires.marks_len in
     sym counts-back.back_length ∙ fit.0 ∙ sym fit.1
 
 pub returns : goal.returns
-returns c widths vars chans = let walkable : Walkable c.args.exprs.now c.args.nodes.now c.args.values.now =
+returns c widths vars chans =
+    let walkable : Walkable c.args.exprs.now c.args.nodes.now c.args.values.now =
     let (widths, chans, accepted) = c.requires.by_index in
     let values = c.args.values.now in
     accepted_walkable (program_of c.args.exprs.now c.args.nodes.now widths (length values) chans) values
@@ -154,9 +172,12 @@ returns c widths vars chans = let walkable : Walkable c.args.exprs.now c.args.no
     let new_marks : List ℕ = c.enter_node.new.marks in
     let new_counts : List ℕ = c.enter_node.new.counts in
     let new_work : List ℕ = c.enter_node.new.work in
-    let marks-back : Returned (replicate 1024 0) new_marks (length c.args.marks.now) = returned _ new_marks _ inside c.enter_node.auto.marks in
-    let counts-back : Returned (replicate 1024 0) new_counts (length c.args.marks.now) = returned _ new_counts _ inside c.enter_node.auto.counts in
-    let walked : (widths : List ℕ) (vars chans : ℕ) → root_walk (program_of c.args.exprs.now c.args.nodes.now widths vars chans) c.args.values.now
+    let marks-back : Returned (replicate 1024 0) new_marks (length c.args.marks.now) =
+    returned _ new_marks _ inside c.enter_node.auto.marks in
+    let counts-back : Returned (replicate 1024 0) new_counts (length c.args.marks.now) =
+    returned _ new_counts _ inside c.enter_node.auto.counts in
+    let walked : (widths : List ℕ) (vars chans : ℕ)
+    → root_walk (program_of c.args.exprs.now c.args.nodes.now widths vars chans) c.args.values.now
     ≡ walk_in new_marks new_counts new_work = λ widths vars chans.
     let (_, _, accepted) = c.requires.by_index in
     let filled = c.fill_values in

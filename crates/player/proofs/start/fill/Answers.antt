@@ -8,7 +8,8 @@ fill_masks-requires c =
     let filled = c.fill_values in
     let a = c.args in record {
       widths_len_bound = c.requires.widths_len_bound;
-      masks_to = no_masks a.widths.now a.work.now filled.new.work c.requires.work_value (filled.ensures.by_index []).size
+      masks_to =
+          no_masks a.widths.now a.work.now filled.new.work c.requires.work_value (filled.ensures.by_index []).size
           filled.ensures.kept_from;
     }
 

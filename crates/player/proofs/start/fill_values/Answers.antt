@@ -17,4 +17,8 @@ returns c =
     let l = c.loop-v in
     let values = c.args.values.now in
     let end : l.v ≡ length values = omega arith in
-    let filled = subst (λ (n : ℕ). ValuesTo values l.work n) end l.invariant in record { by_index = λ exprs. all-values exprs values l.work filled; kept_from = values_kept values c.args.work.now l.work c.requires.1 filled }
+    let filled = subst (λ (n : ℕ). ValuesTo values l.work n) end l.invariant in
+    record {
+      by_index = λ exprs. all-values exprs values l.work filled;
+      kept_from = values_kept values c.args.work.now l.work c.requires.1 filled;
+    }

@@ -31,7 +31,8 @@ loop-n-preserved c =
     let made = one.ensures in (
       omega arith,
       rw (ap (λ (b : Bool). b || l.changed) made.value, made.values_after, made.work_after, made.claims_after)
-          (stored_more a.values.now a.work.now a.claims.now l.invariant.1 c.requires.held_fit more c.requires.work_len.0),
+          (stored_more a.values.now a.work.now a.claims.now l.invariant.1 c.requires.held_fit more
+          c.requires.work_len.0),
     )
 
 pub returns : goal.returns

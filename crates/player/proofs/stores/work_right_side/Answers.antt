@@ -35,7 +35,11 @@ pub right_side-value-requires : goal.right_side-value-requires
 right_side-value-requires c =
     let made = rw c.target-variable.ensures at c.claim.ensures in
     let (_, values, _, x, s, m) = c.requires in
-    let e = c.source.ensures (claimed_entry x made s) s in record { e_bound = storing_source x c.source.result s e; by_index = (values, storing_formulas x, m) }
+    let e = c.source.ensures (claimed_entry x made s) s in
+    record {
+      e_bound = storing_source x c.source.result s e;
+      by_index = (values, storing_formulas x, m);
+    }
 
 pub hold-requires : goal.hold-requires
 hold-requires c =
@@ -51,4 +55,5 @@ returns c =
     let q = c.source.ensures (claimed_entry x made s) s in
     let w = c.right_side-value.ensures values (storing_formulas x) m in
     rw (c.hold.ensures, at)
-    (entry_worked x made s e c.right_side-value.result w (not-false c.claim.result (not_from_true _ c.if-not-claim.false)) q)
+    (entry_worked x made s e c.right_side-value.result w
+    (not-false c.claim.result (not_from_true _ c.if-not-claim.false)) q)

@@ -23,12 +23,14 @@ end_of-child-requires c =
     omega arith
 
 pub loop-child-smaller : goal.loop-child-smaller
-loop-child-smaller c = let at-child : Sibling c.args.nodes.now c.args.h c.loop-child.child =
+loop-child-smaller c =
+    let at-child : Sibling c.args.nodes.now c.args.h c.loop-child.child =
     sibling _ c.requires.nodes_ok _ c.loop-child.child (omega arith)
     (omega arith) (omega arith) in let s = at-child in omega arith
 
 pub loop-child-preserved : goal.loop-child-preserved
-loop-child-preserved c = let at-child : Sibling c.args.nodes.now c.args.h c.loop-child.child =
+loop-child-preserved c =
+    let at-child : Sibling c.args.nodes.now c.args.h c.loop-child.child =
     sibling _ c.requires.nodes_ok _ c.loop-child.child (omega arith)
     (omega arith) (omega arith) in
     let s = at-child in

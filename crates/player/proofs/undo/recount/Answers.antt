@@ -37,7 +37,8 @@ bounds-marks-i c = omega arith
 
 -- at node i - 1: the invariant before it is counted
 pub add_to_parent-requires : goal.add_to_parent-requires
-add_to_parent-requires c = let so_far : let a = c.args in
+add_to_parent-requires c =
+    let so_far : let a = c.args in
     Recounted a.nodes.now a.marks.now (suc (c.loop-i.i - 1)) c.loop-i.counts
     c.loop-i.live =
     let a = c.args in
@@ -52,7 +53,8 @@ pub loop-i-smaller : goal.loop-i-smaller
 loop-i-smaller c = omega arith
 
 pub loop-i-preserved : goal.loop-i-preserved
-loop-i-preserved c = let so_far : let a = c.args in
+loop-i-preserved c =
+    let so_far : let a = c.args in
     Recounted a.nodes.now a.marks.now (suc (c.loop-i.i - 1)) c.loop-i.counts
     c.loop-i.live =
     let a = c.args in

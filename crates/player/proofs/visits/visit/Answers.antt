@@ -13,7 +13,10 @@ mark-requires c =
     (walking_tallied x, rw x.marks_fit (entry_node c.requires.paired_entry.0))
 
 pub leave-requires : goal.leave-requires
-leave-requires c = record { by_index = c.requires.by_index; i_bound = (entry_node c.requires.paired_entry.0, c.requires.paired_entry.1) }
+leave-requires c = record {
+  by_index = c.requires.by_index;
+  i_bound = (entry_node c.requires.paired_entry.0, c.requires.paired_entry.1);
+}
 
 pub returns-then-waits : goal.returns-then-waits
 returns-then-waits c = λ values old counts₀ x walking.

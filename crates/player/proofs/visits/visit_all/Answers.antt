@@ -20,7 +20,11 @@ visit-requires c =
     let pre = c.requires in
     let (values, y) = pre.by_index in
     let (x, p) = pre.climbing.0 in
-    let u = l.invariant.1 values [] [] x p y in record { by_index = (values, u.walking); paired_entry = (entry_at x p l.k c.loop-k-test.true, underway_climbing u pre.climbing.1) }
+    let u = l.invariant.1 values [] [] x p y in
+    record {
+      by_index = (values, u.walking);
+      paired_entry = (entry_at x p l.k c.loop-k-test.true, underway_climbing u pre.climbing.1);
+    }
 
 pub loop-k-preserved : goal.loop-k-preserved
 loop-k-preserved c =

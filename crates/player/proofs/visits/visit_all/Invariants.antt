@@ -15,7 +15,8 @@ invariant-loop-k l =
     × ((values old counts_then : List ℕ) (x : CycleOf l.nodes l.entries) → Paired x l.claims
     → Walking l.exprs l.nodes values l.initial.marks l.initial.counts l.initial.work
     → (let step = visit (program x) (state_of old x.marks counts_then) (holds_in l.exprs values) in
-    Underway l.exprs l.nodes values l.initial.work (foldl step (walk_in l.initial.marks l.initial.counts l.initial.work) l.entries)
+    Underway l.exprs l.nodes values l.initial.work
+    (foldl step (walk_in l.initial.marks l.initial.counts l.initial.work) l.entries)
     (foldl step (walk_in l.marks l.counts l.work) (drop l.k l.entries)) l.marks l.counts l.work))
 
 abbrev pub decreases-loop-k : goal.decreases-loop-k

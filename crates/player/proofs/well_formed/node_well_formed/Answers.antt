@@ -40,5 +40,6 @@ returns-in-1 c =
     ≡ node_well_formed (kind_of k) a.mark a.count a.live in
     elim c.in-1-1.branch [
       | in-1-1 w ↦ (let e : a.kind ≡ 1 = omega arith in rw e)
-      | in_default+else-kind-lt1+else-kind-lt6+then-kind-lt8 w ↦ one_of_two F 6 a.kind (omega arith) (omega arith) refl refl
+      | in_default+else-kind-lt1+else-kind-lt6+then-kind-lt8 w ↦ one_of_two F 6 a.kind (omega arith)
+          (omega arith) refl refl
     ]

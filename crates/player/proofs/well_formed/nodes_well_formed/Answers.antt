@@ -44,7 +44,8 @@ shape_of-live-then-not-node_well_formed c =
 -- at node i - 1: the invariant before it is asked
 -- and the answer
 pub returns-then-not-node_well_formed : goal.returns-then-not-node_well_formed
-returns-then-not-node_well_formed c = let passed : let a = c.args in
+returns-then-not-node_well_formed c =
+    let passed : let a = c.args in
     Passed a.nodes.now a.marks.now a.counts.now (suc (c.loop-i.i - 1)) c.loop-i.live =
     let a = c.args in
     let e : c.loop-i.i ≡ suc (c.loop-i.i - 1) = omega arith in
@@ -63,7 +64,8 @@ returns-then-not-node_well_formed c = let passed : let a = c.args in
     (λ h. true≢false (sym (every_below ok n h (c.loop-i.i - 1) (omega arith)) ∙ wrong)))
 
 pub add_to_parent-requires : goal.add_to_parent-requires
-add_to_parent-requires c = let passed : let a = c.args in
+add_to_parent-requires c =
+    let passed : let a = c.args in
     Passed a.nodes.now a.marks.now a.counts.now (suc (c.loop-i.i - 1)) c.loop-i.live =
     let a = c.args in
     let e : c.loop-i.i ≡ suc (c.loop-i.i - 1) = omega arith in
@@ -75,7 +77,8 @@ pub loop-i-smaller : goal.loop-i-smaller
 loop-i-smaller c = omega arith
 
 pub loop-i-preserved : goal.loop-i-preserved
-loop-i-preserved c = let passed : let a = c.args in
+loop-i-preserved c =
+    let passed : let a = c.args in
     Passed a.nodes.now a.marks.now a.counts.now (suc (c.loop-i.i - 1)) c.loop-i.live =
     let a = c.args in
     let e : c.loop-i.i ≡ suc (c.loop-i.i - 1) = omega arith in

@@ -5,7 +5,8 @@ use Rattle.program.proofs.parents.fill_tables.Goals as goal
 
 -- what the tables hold above the new node is at most the node's number
 pub overflow_add-depths : goal.overflow_add-depths
-overflow_add-depths c = let depth-fits : get_or c.loop-i.depths c.parent_rank-above.result 0 ≤ c.loop-i.i =
+overflow_add-depths c =
+    let depth-fits : get_or c.loop-i.depths c.parent_rank-above.result 0 ≤ c.loop-i.i =
     let nodes = c.args.nodes.now in
     let right = c.loop-i.invariant.4.depths_right c.parent_rank-above.result c.parent_rank-above.ensures.1 in
     omega (arith, depth_at-low nodes c.parent_rank-above.result) in omega (arith, depth-fits)

@@ -16,7 +16,8 @@ returns-then-i-end_word c =
 
 -- the next rank is that of the parent of the node passed
 pub loop-rank-smaller : goal.loop-rank-smaller
-loop-rank-smaller c = let next : c.word_at-rank.result ≡ parent_rank c.args.nodes.now (c.loop-rank.rank - 1) =
+loop-rank-smaller c =
+    let next : c.word_at-rank.result ≡ parent_rank c.args.nodes.now (c.loop-rank.rank - 1) =
     let l = c.loop-rank in
     let x = c.args in
     c.word_at-rank.ensures

@@ -12,13 +12,15 @@ loop-i-init c = (search rules, λ widths. refl)
 pub returns-then-not-references_ok : goal.returns-then-not-references_ok
 returns-then-not-references_ok c widths =
     let l = c.loop-i in
-    failed _ _ l.i _ l.invariant.0 (l.invariant.1 widths) (c.references_ok.ensures widths) (not_from_false _ c.if-not-references_ok.true)
+    failed _ _ l.i _ l.invariant.0 (l.invariant.1 widths) (c.references_ok.ensures widths)
+    (not_from_false _ c.if-not-references_ok.true)
 
 pub loop-i-preserved : goal.loop-i-preserved
 loop-i-preserved c =
     let l = c.loop-i in (
       omega arith,
-      λ widths. passed_more _ l.i _ (l.invariant.1 widths) (c.references_ok.ensures widths) (not_from_true _ c.if-not-references_ok.false),
+      λ widths. passed_more _ l.i _ (l.invariant.1 widths) (c.references_ok.ensures widths)
+          (not_from_true _ c.if-not-references_ok.false),
     )
 
 pub returns : goal.returns

@@ -7,7 +7,9 @@ use Rattle.program.proofs.ranges.first_out_of_range.Given as goal
 
 abbrev pub invariant-loop-i : goal.invariant-loop-i
 invariant-loop-i l =
-    (l.i ≤ l.count) × ((widths : List ℕ) → every (references_ok (program_of l.exprs l.nodes widths l.vars l.chans)) (below l.i) ≡ true)
+    (l.i ≤ l.count)
+    × ((widths : List ℕ)
+    → every (references_ok (program_of l.exprs l.nodes widths l.vars l.chans)) (below l.i) ≡ true)
 
 abbrev pub decreases-loop-i : goal.decreases-loop-i
 decreases-loop-i l = l.count - l.i

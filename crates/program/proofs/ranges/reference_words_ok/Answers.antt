@@ -25,14 +25,16 @@ returns-in-6-to-7 c nodes widths =
     let named = ltb x.a (expr_count x.exprs.now) in
     let P = program_of x.exprs.now nodes widths x.vars x.chans in
     c.has_expr-in-6-to-7.ensures
-    ∙ one_of_two (λ w. named ≡ reference_words_ok P (kind_of w) x.a x.b) 6 x.kind (omega arith) (omega arith) refl refl
+    ∙ one_of_two (λ w. named ≡ reference_words_ok P (kind_of w) x.a x.b) 6 x.kind (omega arith)
+    (omega arith) refl refl
 
 pub returns-in_default : goal.returns-in_default
 unfolding kind_of reference_words_ok
 returns-in_default c nodes widths =
     let x = c.args in
     let P = program_of x.exprs.now nodes widths x.vars x.chans in
-    one_of_three (λ w. true ≡ reference_words_ok P (kind_of w) x.a x.b) 0 x.kind (omega arith) (omega arith) refl refl refl
+    one_of_three (λ w. true ≡ reference_words_ok P (kind_of w) x.a x.b) 0 x.kind (omega arith)
+    (omega arith) refl refl refl
 
 pub returns-in_default-2 : goal.returns-in_default-2
 unfolding kind_of reference_words_ok

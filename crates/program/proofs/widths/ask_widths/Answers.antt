@@ -19,7 +19,8 @@ returns-then-widths-vars c exprs nodes chans =
 pub returns-then-variable-vars : goal.returns-then-variable-vars
 unfolding widths_ok
 returns-then-variable-vars c exprs nodes chans =
-    let program : List ℕ → List ℕ → ℕ → Program = λ exprs nodes chans. let x = c.args in program_of exprs nodes x.widths.now x.vars chans in
+    let program : List ℕ → List ℕ → ℕ → Program = λ exprs nodes chans. let x = c.args in
+    program_of exprs nodes x.widths.now x.vars chans in
     let as_many : let x = c.args in length x.widths.now ≡ x.vars = c.if-widths-vars.false in
     let P = program exprs nodes chans in
     let f = c.first_faulty_width-variable.ensures in
@@ -30,7 +31,8 @@ returns-then-variable-vars c exprs nodes chans =
 pub returns : goal.returns
 unfolding widths_ok
 returns c exprs nodes chans =
-    let program : List ℕ → List ℕ → ℕ → Program = λ exprs nodes chans. let x = c.args in program_of exprs nodes x.widths.now x.vars chans in
+    let program : List ℕ → List ℕ → ℕ → Program = λ exprs nodes chans. let x = c.args in
+    program_of exprs nodes x.widths.now x.vars chans in
     let as_many : let x = c.args in length x.widths.now ≡ x.vars = c.if-widths-vars.false in
     let P = program exprs nodes chans in
     let f = c.first_faulty_width-variable.ensures in

@@ -13,13 +13,15 @@ loop-v-init c = (search rules, refl)
 -- the code's test of a width is the rules' test
 pub returns-then-not-width_ok : goal.returns-then-not-width_ok
 returns-then-not-width_ok c =
-    let asked : c.width_ok.result ≡ width_ok (width_at c.args.widths.now c.loop-v.v) = c.width_ok.ensures ∙ ap width_ok c.width_word.ensures in
+    let asked : c.width_ok.result ≡ width_ok (width_at c.args.widths.now c.loop-v.v) =
+    c.width_ok.ensures ∙ ap width_ok c.width_word.ensures in
     let l = c.loop-v in
     failed _ _ l.v _ l.invariant.0 l.invariant.1 asked (not_from_false _ c.if-not-width_ok.true)
 
 pub loop-v-preserved : goal.loop-v-preserved
 loop-v-preserved c =
-    let asked : c.width_ok.result ≡ width_ok (width_at c.args.widths.now c.loop-v.v) = c.width_ok.ensures ∙ ap width_ok c.width_word.ensures in
+    let asked : c.width_ok.result ≡ width_ok (width_at c.args.widths.now c.loop-v.v) =
+    c.width_ok.ensures ∙ ap width_ok c.width_word.ensures in
     let l = c.loop-v in
     (omega arith, passed_more _ l.v _ l.invariant.1 asked (not_from_true _ c.if-not-width_ok.false))
 
