@@ -123,7 +123,7 @@ fn hold(compiler: &str, standards: &[&str], file: &Path) {
 }
 
 #[test]
-fn headers_in_c() {
+fn header_in_c() {
     for (name, text) in users() {
         let file = written(&format!("{name}.c"), &text);
         hold("gcc", &C, &file);
@@ -132,7 +132,7 @@ fn headers_in_c() {
 }
 
 #[test]
-fn headers_in_cpp() {
+fn header_in_cpp() {
     for (name, text) in users() {
         let file = written(&format!("{name}.cpp"), &text);
         hold("g++", &CPP, &file);
