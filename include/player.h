@@ -40,8 +40,8 @@
  * are large, deep or random (tests/tests/stack.rs). It is measured and not proved; 1 KB is 1,024 bytes:
  *
  *   player_check   about 6.2 KB
- *   player_begin   about 17.4 KB
- *   player_run     about 23.6 KB
+ *   player_begin   about 16.3 KB
+ *   player_run     about 22.5 KB
  *
  * The archive, target/staticlib/libplayer.a, is for x86-64. examples/embed.c begins a program and runs it.
  *
