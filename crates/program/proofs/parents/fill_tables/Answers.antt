@@ -1,23 +1,22 @@
 -- `fill_tables` puts one node after the other into the tables.
-use Rattle.std.proofs.Common.{◌≡◌, ◌≤◌, get_or, arith, length-set}
+use Rattle.std.proofs.Common.{◌≡◌, arith, length-set}
 use Rattle.program.proofs.TableLaws.{depth_at-low, children_at-low, grow}
 use Rattle.program.proofs.parents.fill_tables.Goals as goal
 
--- what the tables hold above the new node is at most the node's number
+-- what the table of depths holds above the new node is at most the node's number
 pub overflow_add-depths : goal.overflow_add-depths
 overflow_add-depths c =
-    let depth-fits : get_or c.loop-i.depths c.parent_rank-above.result 0 ≤ c.loop-i.i =
-    let nodes = c.args.nodes.now in
-    let right = c.loop-i.invariant.4.depths_right c.parent_rank-above.result c.parent_rank-above.ensures.1 in
-    omega (arith, depth_at-low nodes c.parent_rank-above.result) in omega (arith, depth-fits)
+    let up = c.parent_rank-above in
+    let right = c.loop-i.invariant.4.depths_right up.result up.ensures.1 in
+    omega (arith, depth_at-low c.args.nodes.now up.result)
 
+-- so is what the table of numbers of children holds there
 pub overflow_add-children : goal.overflow_add-children
 overflow_add-children c =
-    let child-count-fits : get_or c.loop-i.children c.parent_rank-above.result 0 ≤ c.loop-i.i =
-    let nodes = c.args.nodes.now in
     let l = c.loop-i in
-    let right = l.invariant.4.children_right c.parent_rank-above.result in
-    omega (arith, children_at-low nodes l.i c.parent_rank-above.result) in omega (arith, child-count-fits)
+    let up = c.parent_rank-above in
+    let right = l.invariant.4.children_right up.result in
+    omega (arith, children_at-low c.args.nodes.now l.i up.result)
 
 pub loop-i-preserved : goal.loop-i-preserved
 loop-i-preserved c =
