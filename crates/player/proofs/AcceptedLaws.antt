@@ -1,11 +1,13 @@
--- What check's questions and question 5 give to the code: an accepted program can be walked where there are as many
--- values as variables, lists that fit have one element for each node, and each value has a width.
+-- How the code finds the answers of check's questions and question 5, and what they give to it: an accepted program can
+-- be walked where there are as many values as variables, lists that fit have one element for each node, and each value
+-- has a width.
 use mathlib.Core.Path.{◌≡◌, sym, ◌∙◌}
-use mathlib.Core.Bool.{true}
+use mathlib.Core.Bool.{Bool, true, ◌&&◌}
 use mathlib.Core.Logic.{inl, inr}
 use mathlib.Core.List.{List}
 use Prim.Native.Nat.{ℕ, ◌≤◌, ◌<◌}
 use native.Mathlib.Omega.{arith}
+use lib.Dec.{eqb}
 use lib.ListN.{length}
 use borrow.Author.Tests.{ltb-true}
 use Rattle.semantics.specs.Program.{Program, expr_count, node_count, a_at}
@@ -16,10 +18,25 @@ use Rattle.semantics.proofs.Lists.Logic.{lt_or_le}
 use Rattle.semantics.proofs.Lists.KindNumbers.{kind_if, kind_whl}
 use Rattle.semantics.proofs.Lists.QuestionLaws.{accepted}
 use Rattle.semantics.proofs.Order.CycleOrder.{fits_lengths}
+use Rattle.program.specs.Answer.{CheckAnswer}
 use Rattle.player.specs.Walks.{kind_word, Walkable}
 use Rattle.player.specs.WellFormed.{ListsFit}
 use Rattle.player.specs.Work.{EachWidth}
 use Rattle.player.proofs.MaskLaws.{each_width}
+
+-- where check gives 0, its questions are answered yes
+pub check_passed : {P : Program} {q item : ℕ} → CheckAnswer P q item → q ≡ 0 → check_number P ≡ 0
+check_passed c none = sym c.right_number ∙ none
+
+-- where the code compares the lengths of the lists, question 5 is answered as the code finds
+pub lengths_found : (P : Program) (s : State) {found answer : Bool}
+    → found
+    ≡ (eqb (length s.values) P.variables
+    && eqb (length s.marks) (node_count P.nodes)
+    && eqb (length s.counts) (node_count P.nodes))
+    → found ≡ answer → lengths_ok P s ≡ answer
+unfolding lengths_ok
+lengths_found P s right answer = sym right ∙ answer
 
 condition_there : (P : Program) → Accepted P → (i : ℕ) → i < node_count P.nodes → 6 ≤ kind_word P.nodes i
     → kind_word P.nodes i ≤ 7 → a_at P.nodes i < expr_count P.exprs

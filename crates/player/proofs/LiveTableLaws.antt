@@ -5,7 +5,7 @@ use mathlib.Core.Bool.{Bool, true, false, cond, ◌&&◌, ◌||◌, and-true, an
 use mathlib.Core.List.{List}
 use mathlib.Core.Option.{some}
 use mathlib.Core.Logic.{inl, inr}
-use Prim.Native.Nat.{ℕ, suc, ◌+◌, ◌≤◌, ◌<◌}
+use Prim.Native.Nat.{ℕ, suc, ◌+◌, ◌-◌, ◌≤◌, ◌<◌}
 use native.Mathlib.Nat.{le_refl}
 use native.Mathlib.Numerals.{add-one}
 use native.Mathlib.Omega.{arith}
@@ -59,6 +59,10 @@ table_start {nodes} {marks} lists =
           let fits = lists.nodes_fit in
           get_or-replicate {A = ℕ} 1024 h 0 0 (omega arith) ∙ sym (live_from_last nodes marks h);
     }
+
+-- where i nodes are left, a turn of a pass takes node i - 1: the nodes after it are those from i on
+pub turn : {i : ℕ} → 0 < i → i ≡ suc (i - 1)
+turn left = omega arith
 
 -- ---- node i, when the nodes after it are in the table
 module _ {nodes marks counts : List ℕ} {i : ℕ} {live : List ℕ} (lists : ListsFit nodes marks counts)

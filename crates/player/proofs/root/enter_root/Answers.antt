@@ -1,189 +1,91 @@
 -- `enter_root` enters node 0 with zeros in the fronts of its scratch lists, which have one element for each node. So
 -- what it copies from there is what the rules' begin leaves.
-use mathlib.Core.Path.{◌≡◌, refl, sym, ap, ◌∙◌}
+use mathlib.Core.Path.{◌≡◌, refl, ap, ◌∙◌}
 use mathlib.Core.List.{List}
 use Prim.Native.Nat.{ℕ, ◌≤◌}
 use native.Mathlib.Omega.{arith}
 use lib.ListN.{length, replicate, take}
-use lib.Seq.{length-take-le}
 use Rattle.semantics.specs.Program.{node_count}
+use Rattle.semantics.specs.Walk.{enter}
 use Rattle.semantics.specs.Calls.{root_walk}
+use Rattle.semantics.specs.Facts.{Accepted, statement_at}
 use Rattle.program.specs.Answer.{program_of}
-use Rattle.player.specs.Walks.{walk_in, Walkable, Walking}
+use Rattle.player.specs.Work.{Memo, KeptFrom}
+use Rattle.player.specs.Walks.{walk_in, holds_in, Walkable, Walking, Enters}
 use Rattle.player.proofs.AcceptedLaws.{accepted_walkable}
 use Rattle.player.proofs.PartLaws.{take-zeros, Returned, returned}
 use Rattle.player.proofs.RootLaws.{root_walking, root_walked, nothing_written, both_written}
 use Rattle.player.proofs.root.enter_root.Goals as goal
 
-pub slice_bounds-enter_node-end : goal.slice_bounds-enter_node-end
-slice_bounds-enter_node-end c = sym (length-take-le _ _ (omega arith))
+-- the front of a scratch list that is lent
+abbrev front : ℕ → List ℕ
+front n = take n (replicate 1024 0)
 
-pub slice_bounds-enter_node-end-2 : goal.slice_bounds-enter_node-end-2
-slice_bounds-enter_node-end-2 c = sym (length-take-le _ _ (omega arith))
+-- ---- the program is accepted with some widths and channels, and has n nodes
+module _ {exprs nodes : List ℕ} (values : List ℕ) {n : ℕ}
+    (accepted : (widths : List ℕ) × (chans : ℕ) × Accepted (program_of exprs nodes widths (length values) chans))
+    (fit : n ≡ node_count nodes) where
+  -- it can be walked
+  walkable : Walkable exprs nodes values
+  walkable =
+      let (widths, chans, ok) = accepted in
+      accepted_walkable (program_of exprs nodes widths (length values) chans) values ok refl
+
+  -- a scratch list has an element for each node
+  inside : n ≤ 1024
+  inside = omega (arith, fit, walkable.nodes_fit)
+
+  -- the front that is lent has a zero for each node
+  blank : front n ≡ replicate (node_count nodes) 0
+  blank = take-zeros n 1024 inside ∙ ap (λ (k : ℕ). replicate {A = ℕ} k 0) fit
+
+  -- what comes back in that front is the front of the scratch list then
+  came_back : (new : List ℕ) → length new ≡ length (front n) → Returned (replicate 1024 0) new n
+  came_back new kept = returned (replicate 1024 0) new n inside kept
+
+  module _ {work : List ℕ} (memo : (exprs : List ℕ) → Memo exprs values work)
+      (kept : KeptFrom 2305 (replicate 3587 0) work) where
+    -- the walk can begin
+    walking : Walking exprs nodes values (front n) (front n) work
+    walking = rw blank (root_walking walkable (memo exprs) kept)
+
+    -- what entering node 0 leaves is what the rules' begin leaves
+    walked : {outcome : ℕ} {marks counts new_work : List ℕ}
+        → ((values : List ℕ) → Walking exprs nodes values (front n) (front n) work
+        → Enters exprs nodes values work
+        (enter (holds_in exprs values) (statement_at nodes 0) (walk_in (front n) (front n) work)) outcome marks counts
+        new_work)
+        → (widths : List ℕ) (vars chans : ℕ)
+        → root_walk (program_of exprs nodes widths vars chans) values ≡ walk_in marks counts new_work
+    walked {outcome} {marks} {counts} {new_work} entered widths vars chans =
+        let (_, _, ok) = accepted in
+        root_walked exprs nodes widths values work vars chans outcome marks counts new_work ok.sizes.some_node kept
+        (rw blank at (entered values walking))
 
 -- ---- before node 0 is entered
--- the front of a scratch list that is lent
-pub enter_node-requires : goal.enter_node-requires
-enter_node-requires c =
-    let walkable : Walkable c.args.exprs.now c.args.nodes.now c.args.values.now =
-    let (widths, chans, accepted) = c.requires.by_index in
-    let values = c.args.values.now in
-    accepted_walkable (program_of c.args.exprs.now c.args.nodes.now widths (length values) chans) values
-    accepted refl in
-    let inside : length c.args.marks.now ≤ 1024 = omega (arith, c.requires.marks_len.0, walkable.nodes_fit) in
-    let front : List ℕ = take (length c.args.marks.now) (replicate 1024 0) in
-    let blank : front ≡ replicate (node_count c.args.nodes.now) 0 =
-    take-zeros _ 1024 inside ∙ ap (λ (n : ℕ). replicate {A = ℕ} n 0) c.requires.marks_len.0 in
-    let walking : Walking c.args.exprs.now c.args.nodes.now c.args.values.now front front
-    c.fill_values.new.work =
+pub enter_node-requires-clause-by_index : goal.enter_node-requires-clause-by_index
+enter_node-requires-clause-by_index c =
     let filled = c.fill_values.ensures in
-    rw blank (root_walking walkable (filled.by_index c.args.exprs.now) filled.kept_from) in
-    let (_, _, accepted) = c.requires.by_index in
-    record {
-      by_index = (c.args.values.now, walking);
-      i_bound = accepted.sizes.some_node;
-    }
+    let values = c.args.values.now in
+    (values, walking values c.requires.by_index c.requires.marks_len.0 filled.by_index filled.kept_from)
 
 -- ---- node 0 is entered
--- the marks and the counts that came back in the scratch lists, and `work`
--- they are those of the rules' begin
 pub returns-then-work-ne0 : goal.returns-then-work-ne0
 returns-then-work-ne0 c widths vars chans =
-    let walkable : Walkable c.args.exprs.now c.args.nodes.now c.args.values.now =
-    let (widths, chans, accepted) = c.requires.by_index in
-    let values = c.args.values.now in
-    accepted_walkable (program_of c.args.exprs.now c.args.nodes.now widths (length values) chans) values
-    accepted refl in
-    let inside : length c.args.marks.now ≤ 1024 = omega (arith, c.requires.marks_len.0, walkable.nodes_fit) in
-    let front : List ℕ = take (length c.args.marks.now) (replicate 1024 0) in
-    let blank : front ≡ replicate (node_count c.args.nodes.now) 0 =
-    take-zeros _ 1024 inside ∙ ap (λ (n : ℕ). replicate {A = ℕ} n 0) c.requires.marks_len.0 in
-    let walking : Walking c.args.exprs.now c.args.nodes.now c.args.values.now front front
-    c.fill_values.new.work =
+    let pre = c.requires in
     let filled = c.fill_values.ensures in
-    rw blank (root_walking walkable (filled.by_index c.args.exprs.now) filled.kept_from) in
-    let new_marks : List ℕ = c.enter_node.new.marks in
-    let new_counts : List ℕ = c.enter_node.new.counts in
-    let new_work : List ℕ = c.enter_node.new.work in
-    let walked : (widths : List ℕ) (vars chans : ℕ)
-    → root_walk (program_of c.args.exprs.now c.args.nodes.now widths vars chans) c.args.values.now
-    ≡ walk_in new_marks new_counts new_work = λ widths vars chans.
-    let (_, _, accepted) = c.requires.by_index in
-    let filled = c.fill_values in
-    root_walked c.args.exprs.now c.args.nodes.now widths c.args.values.now filled.new.work vars
-    chans c.enter_node.result new_marks new_counts new_work accepted.sizes.some_node
-    filled.ensures.kept_from (rw blank at (c.enter_node.ensures c.args.values.now walking)) in
-    nothing_written new_work (walked widths vars chans) _ _ c.if-work-ne0.true
-
-pub slice_bounds-new_marks-end-2 : goal.slice_bounds-new_marks-end-2
-slice_bounds-new_marks-end-2 c =
-    let walkable : Walkable c.args.exprs.now c.args.nodes.now c.args.values.now =
-    let (widths, chans, accepted) = c.requires.by_index in
-    let values = c.args.values.now in
-    accepted_walkable (program_of c.args.exprs.now c.args.nodes.now widths (length values) chans) values
-    accepted refl in
-    let inside : length c.args.marks.now ≤ 1024 = omega (arith, c.requires.marks_len.0, walkable.nodes_fit) in
-    let new_marks : List ℕ = c.enter_node.new.marks in
-    let marks-back : Returned (replicate 1024 0) new_marks (length c.args.marks.now) =
-    returned _ new_marks _ inside c.enter_node.auto.marks in
-    marks-back.inside
-
-pub slice_bounds-copy_bytes-end : goal.slice_bounds-copy_bytes-end
-slice_bounds-copy_bytes-end c =
-    let walkable : Walkable c.args.exprs.now c.args.nodes.now c.args.values.now =
-    let (widths, chans, accepted) = c.requires.by_index in
-    let values = c.args.values.now in
-    accepted_walkable (program_of c.args.exprs.now c.args.nodes.now widths (length values) chans) values
-    accepted refl in
-    let inside : length c.args.marks.now ≤ 1024 = omega (arith, c.requires.marks_len.0, walkable.nodes_fit) in
-    let new_marks : List ℕ = c.enter_node.new.marks in
-    let marks-back : Returned (replicate 1024 0) new_marks (length c.args.marks.now) =
-    returned _ new_marks _ inside c.enter_node.auto.marks in
-    marks-back.back_length
-
-pub copy_bytes-requires : goal.copy_bytes-requires
-copy_bytes-requires c =
-    let walkable : Walkable c.args.exprs.now c.args.nodes.now c.args.values.now =
-    let (widths, chans, accepted) = c.requires.by_index in
-    let values = c.args.values.now in
-    accepted_walkable (program_of c.args.exprs.now c.args.nodes.now widths (length values) chans) values
-    accepted refl in
-    let inside : length c.args.marks.now ≤ 1024 = omega (arith, c.requires.marks_len.0, walkable.nodes_fit) in
-    let new_marks : List ℕ = c.enter_node.new.marks in
-    let marks-back : Returned (replicate 1024 0) new_marks (length c.args.marks.now) =
-    returned _ new_marks _ inside c.enter_node.auto.marks in
-    sym marks-back.back_length
-
-pub slice_bounds-new_counts-end-2 : goal.slice_bounds-new_counts-end-2
-slice_bounds-new_counts-end-2 c =
-    let walkable : Walkable c.args.exprs.now c.args.nodes.now c.args.values.now =
-    let (widths, chans, accepted) = c.requires.by_index in
-    let values = c.args.values.now in
-    accepted_walkable (program_of c.args.exprs.now c.args.nodes.now widths (length values) chans) values
-    accepted refl in
-    let inside : length c.args.marks.now ≤ 1024 = omega (arith, c.requires.marks_len.0, walkable.nodes_fit) in
-    let new_counts : List ℕ = c.enter_node.new.counts in
-    let counts-back : Returned (replicate 1024 0) new_counts (length c.args.marks.now) =
-    returned _ new_counts _ inside c.enter_node.auto.counts in
-    counts-back.inside
-
-pub slice_bounds-copy_words-end : goal.slice_bounds-copy_words-end
-slice_bounds-copy_words-end c =
-    let walkable : Walkable c.args.exprs.now c.args.nodes.now c.args.values.now =
-    let (widths, chans, accepted) = c.requires.by_index in
-    let values = c.args.values.now in
-    accepted_walkable (program_of c.args.exprs.now c.args.nodes.now widths (length values) chans) values
-    accepted refl in
-    let inside : length c.args.marks.now ≤ 1024 = omega (arith, c.requires.marks_len.0, walkable.nodes_fit) in
-    let new_counts : List ℕ = c.enter_node.new.counts in
-    let counts-back : Returned (replicate 1024 0) new_counts (length c.args.marks.now) =
-    returned _ new_counts _ inside c.enter_node.auto.counts in
-    counts-back.back_length
-
-pub copy_words-requires : goal.copy_words-requires
-copy_words-requires c =
-    let walkable : Walkable c.args.exprs.now c.args.nodes.now c.args.values.now =
-    let (widths, chans, accepted) = c.requires.by_index in
-    let values = c.args.values.now in
-    accepted_walkable (program_of c.args.exprs.now c.args.nodes.now widths (length values) chans) values
-    accepted refl in
-    let inside : length c.args.marks.now ≤ 1024 = omega (arith, c.requires.marks_len.0, walkable.nodes_fit) in
-    let new_counts : List ℕ = c.enter_node.new.counts in
-    let counts-back : Returned (replicate 1024 0) new_counts (length c.args.marks.now) =
-    returned _ new_counts _ inside c.enter_node.auto.counts in
-    let fit = c.requires.marks_len in
-    sym counts-back.back_length ∙ fit.0 ∙ sym fit.1
+    let right =
+    walked c.args.values.now pre.by_index pre.marks_len.0 filled.by_index filled.kept_from c.enter_node.ensures in
+    nothing_written c.enter_node.new.work (right widths vars chans) _ _ c.if-work-ne0.true
 
 pub returns : goal.returns
 returns c widths vars chans =
-    let walkable : Walkable c.args.exprs.now c.args.nodes.now c.args.values.now =
-    let (widths, chans, accepted) = c.requires.by_index in
-    let values = c.args.values.now in
-    accepted_walkable (program_of c.args.exprs.now c.args.nodes.now widths (length values) chans) values
-    accepted refl in
-    let inside : length c.args.marks.now ≤ 1024 = omega (arith, c.requires.marks_len.0, walkable.nodes_fit) in
-    let front : List ℕ = take (length c.args.marks.now) (replicate 1024 0) in
-    let blank : front ≡ replicate (node_count c.args.nodes.now) 0 =
-    take-zeros _ 1024 inside ∙ ap (λ (n : ℕ). replicate {A = ℕ} n 0) c.requires.marks_len.0 in
-    let walking : Walking c.args.exprs.now c.args.nodes.now c.args.values.now front front
-    c.fill_values.new.work =
+    let pre = c.requires in
     let filled = c.fill_values.ensures in
-    rw blank (root_walking walkable (filled.by_index c.args.exprs.now) filled.kept_from) in
-    let new_marks : List ℕ = c.enter_node.new.marks in
-    let new_counts : List ℕ = c.enter_node.new.counts in
-    let new_work : List ℕ = c.enter_node.new.work in
-    let marks-back : Returned (replicate 1024 0) new_marks (length c.args.marks.now) =
-    returned _ new_marks _ inside c.enter_node.auto.marks in
-    let counts-back : Returned (replicate 1024 0) new_counts (length c.args.marks.now) =
-    returned _ new_counts _ inside c.enter_node.auto.counts in
-    let walked : (widths : List ℕ) (vars chans : ℕ)
-    → root_walk (program_of c.args.exprs.now c.args.nodes.now widths vars chans) c.args.values.now
-    ≡ walk_in new_marks new_counts new_work = λ widths vars chans.
-    let (_, _, accepted) = c.requires.by_index in
-    let filled = c.fill_values in
-    root_walked c.args.exprs.now c.args.nodes.now widths c.args.values.now filled.new.work vars
-    chans c.enter_node.result new_marks new_counts new_work accepted.sizes.some_node
-    filled.ensures.kept_from (rw blank at (c.enter_node.ensures c.args.values.now walking)) in
-    let marks = c.copy_bytes.ensures ∙ marks-back.back in
-    let counts = c.copy_words.ensures ∙ counts-back.back in
-    rw (marks, counts) (both_written new_work (walked widths vars chans) _ _ c.if-work-ne0.false)
+    let right =
+    walked c.args.values.now pre.by_index pre.marks_len.0 filled.by_index filled.kept_from c.enter_node.ensures in
+    let entered = c.enter_node in
+    let lent = came_back c.args.values.now pre.by_index pre.marks_len.0 in
+    let marks = c.copy_bytes.ensures ∙ (lent entered.new.marks entered.auto.marks).back in
+    let counts = c.copy_words.ensures ∙ (lent entered.new.counts entered.auto.counts).back in
+    rw (marks, counts) (both_written entered.new.work (right widths vars chans) _ _ c.if-work-ne0.false)
