@@ -1,18 +1,18 @@
--- `ask` crosses the entries out and pairs the channels, then works the right sides; where one of the questions refuses, the
--- marks that are crossed out are made again.
+-- `ask` crosses the entries out and pairs the channels, then works the right sides; where one of the questions refuses,
+-- the marks that are crossed out are made again.
 use mathlib.Core.Path.{◌≡◌, sym, ap, ◌∙◌, subst}
 use mathlib.Core.Bool.{true, cond}
 use mathlib.Core.List.{List}
 use mathlib.Core.Logic.{inl, inr}
-use Prim.Native.Nat.{ℕ, ◌≤◌}
+use Prim.Native.Nat.{ℕ, ◌≤◌, ◌<◌}
 use native.Mathlib.Omega.{arith}
-use lib.ListN.{length}
+use lib.ListN.{length, get_or, replicate}
 use borrow.Author.Tests.{lt-ltb, le-ltb, not-false}
 use Rattle.semantics.specs.Cycle.{are_active}
 use Rattle.semantics.proofs.Lists.Logic.{lt_or_le}
 use Rattle.player.specs.Entries.{crossable, set_all}
 use Rattle.player.specs.Claims.{Aged}
-use Rattle.player.specs.Channels.{Pairing}
+use Rattle.player.specs.Channels.{Pairing, CrossedTo}
 use Rattle.player.specs.Cycle.{CycleFrom, cycle_of}
 use Rattle.player.proofs.EntryLaws.{all_fit, crossed-all}
 use Rattle.player.proofs.AskLaws.{not_active, is_active, cleared, marked_back, storing}
@@ -20,17 +20,36 @@ use Rattle.player.proofs.AskLaws.{answer_seven, answer_eight, answer_nine, answe
 use Rattle.std.proofs.lemmas.Bool.{not_from_true}
 use Rattle.player.proofs.cycle.ask.Goals as goal
 
-pub pair_entries-passed-requires : goal.pair_entries-passed-requires
-pair_entries-passed-requires c =
-    let x = c.requires.by_index.2 in
-    record {
-      by_index = ((c.args.exprs.now, x.widths, x.variables, x.channels, x.accepted), x.fit.marks);
-      fresh = c.requires.fresh;
-    }
+-- no entry is left where the pass of questions 7 and 8 came to: all are crossed out of the marks and have claimed their
+-- channels
+module _ {exprs nodes values marks counts entries claims₀ lent claims : List ℕ} {r : ℕ}
+    (x : CycleFrom exprs nodes values marks counts entries)
+    (passed : CrossedTo nodes entries marks claims₀ r lent claims) (all : length entries ≤ r) where
+  crossed : r ≡ crossable marks entries
+  crossed = crossed-all passed.out all
 
-pub refusal-requires : goal.refusal-requires
-refusal-requires c =
-    (c.args.marks.now, c.pair_entries-passed.ensures.out)
+  -- question 7 is answered yes
+  active : are_active marks entries ≡ true
+  active = is_active x (subst (λ (n : ℕ). length entries ≤ n) crossed all)
+
+  -- and question 8
+  pairing : Pairing (cycle_of x active) claims₀ claims
+  pairing = passed.passed all (cycle_of x active)
+
+  -- no mark is left
+  no_marks : lent ≡ replicate (length marks) 0
+  no_marks = passed.out.right ∙ cleared x r crossed all
+
+  -- the entries are places of the marks
+  inside : (k : ℕ) → k < length entries → get_or entries k 0 < length lent
+  inside k l =
+      let fit = all_fit marks entries active k l in
+      let same = passed.out.same_length in
+      omega arith
+
+  -- marked again, the marks are as they were
+  marks_back : set_all 1 lent entries ≡ marks
+  marks_back = ap (λ (m : List ℕ). set_all 1 m entries) passed.out.right ∙ marked_back x r crossed all
 
 pub returns-then-passed-entries : goal.returns-then-passed-entries
 returns-then-passed-entries c =
@@ -50,91 +69,38 @@ returns-then-passed-entries c =
           ])
     ]
 
--- the cycle that the caller knows of
+-- ---- questions 7 and 8 are answered yes
+
 pub work_right_sides-requires : goal.work_right_sides-requires
 work_right_sides-requires c =
-    let from : let a = c.args in
-    let x = c.requires.by_index in
-    CycleFrom a.exprs.now a.nodes.now x.0 a.marks.now x.1 a.entries.now = c.requires.by_index.2 in
-    let all-crossed : c.pair_entries-passed.result ≡ crossable c.args.marks.now c.args.entries.now =
-    crossed-all c.pair_entries-passed.ensures.out c.if-passed-entries.false in
-    let active : let a = c.args in
-    are_active a.marks.now a.entries.now ≡ true =
-    is_active from (subst (λ (n : ℕ). length c.args.entries.now ≤ n) all-crossed c.if-passed-entries.false) in
-    let paired : let a = c.args in
-    (values counts : List ℕ)
-    (x : CycleFrom a.exprs.now a.nodes.now values a.marks.now counts a.entries.now)
-    → Pairing (cycle_of x active) a.claims.now c.pair_entries-passed.new.claims =
-    λ values counts x. c.pair_entries-passed.ensures.passed c.if-passed-entries.false (cycle_of x active) in
-    let s = c.requires.by_index in
-    let p = paired s.0 s.1 s.2 in
+    let (values, counts, x, carried) = c.requires.by_index in
+    let passed = c.pair_entries-passed.ensures in
+    let all = c.if-passed-entries.false in
+    let p = pairing x passed all in
     record {
-      by_index = (s.0, storing s.2 active p, s.3.memo);
+      by_index = (values, storing x (active x passed all) p, carried.memo);
       unwritten = (p.unwritten, subst (Aged _) (sym p.stamp) p.aged);
     }
 
 pub mark_again-requires : goal.mark_again-requires
 mark_again-requires c =
-    let from : let a = c.args in
-    let x = c.requires.by_index in
-    CycleFrom a.exprs.now a.nodes.now x.0 a.marks.now x.1 a.entries.now = c.requires.by_index.2 in
-    let all-crossed : c.pair_entries-passed.result ≡ crossable c.args.marks.now c.args.entries.now =
-    crossed-all c.pair_entries-passed.ensures.out c.if-passed-entries.false in
-    let active : let a = c.args in
-    are_active a.marks.now a.entries.now ≡ true =
-    is_active from (subst (λ (n : ℕ). length c.args.entries.now ≤ n) all-crossed c.if-passed-entries.false) in
-    let same = c.pair_entries-passed.ensures.out.same_length in
-    λ k l.
-    let inside = all_fit c.args.marks.now c.args.entries.now active k l in
-    omega arith
+    inside c.requires.by_index.2 c.pair_entries-passed.ensures c.if-passed-entries.false
 
--- the marks when all entries are marked again
 pub returns-then-not-work_right_sides : goal.returns-then-not-work_right_sides
-returns-then-not-work_right_sides c =
-    let from : let a = c.args in
-    let x = c.requires.by_index in
-    CycleFrom a.exprs.now a.nodes.now x.0 a.marks.now x.1 a.entries.now = c.requires.by_index.2 in
-    let all-crossed : c.pair_entries-passed.result ≡ crossable c.args.marks.now c.args.entries.now =
-    crossed-all c.pair_entries-passed.ensures.out c.if-passed-entries.false in
-    let active : let a = c.args in
-    are_active a.marks.now a.entries.now ≡ true =
-    is_active from (subst (λ (n : ℕ). length c.args.entries.now ≤ n) all-crossed c.if-passed-entries.false) in
-    let paired : let a = c.args in
-    (values counts : List ℕ)
-    (x : CycleFrom a.exprs.now a.nodes.now values a.marks.now counts a.entries.now)
-    → Pairing (cycle_of x active) a.claims.now c.pair_entries-passed.new.claims =
-    λ values counts x. c.pair_entries-passed.ensures.passed c.if-passed-entries.false (cycle_of x active) in
-    let marks-back : let a = c.args in
-    set_all 1 c.pair_entries-passed.new.marks a.entries.now ≡ a.marks.now =
-    ap (λ (m : List ℕ). set_all 1 m c.args.entries.now) c.pair_entries-passed.ensures.out.right
-    ∙ marked_back from c.pair_entries-passed.result all-crossed c.if-passed-entries.false in
-    λ values counts x carried.
-    let p = paired values counts x in
-    answer_nine x active p.free
-    (sym (c.work_right_sides.ensures values (storing x active p) carried.memo).answer
-    ∙ c.if-not-work_right_sides.true)
-    (c.mark_again.ensures ∙ marks-back)
+returns-then-not-work_right_sides c = λ values counts x carried.
+    let passed = c.pair_entries-passed.ensures in
+    let all = c.if-passed-entries.false in
+    let p = pairing x passed all in
+    let sides = c.work_right_sides.ensures values (storing x (active x passed all) p) carried.memo in
+    answer_nine x (active x passed all) p.free (sym sides.answer ∙ c.if-not-work_right_sides.true)
+    (c.mark_again.ensures ∙ marks_back x passed all)
 
 pub returns : goal.returns
-returns c =
-    let from : let a = c.args in
-    let x = c.requires.by_index in
-    CycleFrom a.exprs.now a.nodes.now x.0 a.marks.now x.1 a.entries.now = c.requires.by_index.2 in
-    let all-crossed : c.pair_entries-passed.result ≡ crossable c.args.marks.now c.args.entries.now =
-    crossed-all c.pair_entries-passed.ensures.out c.if-passed-entries.false in
-    let active : let a = c.args in
-    are_active a.marks.now a.entries.now ≡ true =
-    is_active from (subst (λ (n : ℕ). length c.args.entries.now ≤ n) all-crossed c.if-passed-entries.false) in
-    let paired : let a = c.args in
-    (values counts : List ℕ)
-    (x : CycleFrom a.exprs.now a.nodes.now values a.marks.now counts a.entries.now)
-    → Pairing (cycle_of x active) a.claims.now c.pair_entries-passed.new.claims =
-    λ values counts x. c.pair_entries-passed.ensures.passed c.if-passed-entries.false (cycle_of x active) in
-    λ values counts x carried.
-    let p = paired values counts x in
-    answer_none x active p.free p.stamp
-    (c.work_right_sides.ensures values (storing x active p) carried.memo)
-    (not-false c.work_right_sides.result (not_from_true _ c.if-not-work_right_sides.false))
-    carried
-    (c.pair_entries-passed.ensures.out.right
-    ∙ cleared x c.pair_entries-passed.result all-crossed c.if-passed-entries.false)
+returns c = λ values counts x carried.
+    let passed = c.pair_entries-passed.ensures in
+    let all = c.if-passed-entries.false in
+    let p = pairing x passed all in
+    let sides = c.work_right_sides.ensures values (storing x (active x passed all) p) carried.memo in
+    answer_none x (active x passed all) p.free p.stamp sides
+    (not-false c.work_right_sides.result (not_from_true _ c.if-not-work_right_sides.false)) carried
+    (no_marks x passed all)

@@ -1,8 +1,10 @@
 -- `refusal` crosses the other entries out as far as it can, and marks again all that are crossed out.
 use mathlib.Core.Path.{◌≡◌, sym, ap, ◌∙◌}
+use mathlib.Core.Bool.{cond}
 use mathlib.Core.List.{List}
-use Prim.Native.Nat.{ℕ, ◌+◌, ◌≤◌}
+use Prim.Native.Nat.{ℕ, ◌+◌, ◌≤◌, ◌<◌}
 use native.Mathlib.Omega.{arith}
+use lib.Dec.{ltb}
 use lib.ListN.{length, take, drop}
 use borrow.Author.Tests.{lt-ltb, le-ltb}
 use Rattle.player.specs.Entries.{crossable, set_all, CrossedOut}
@@ -32,6 +34,15 @@ module _ {entries marks lent : List ℕ} {passed more : ℕ} (h : CrossedOut ent
       a ∙ ap (λ (m : List ℕ). set_all 1 m (take (passed + more) entries)) (crossed_now e)
       ∙ crossed_back marks entries (passed + more) all
 
+  -- question 7 refuses where not all entries could be crossed out, and question 8 where all could
+  seven : passed + more < length entries
+      → ◌≡◌ {A = ℕ} 7 (cond (ltb (crossable marks entries) (length entries)) 7 8)
+  seven l = sym (rw (← all, lt-ltb (passed + more) (length entries) l))
+
+  eight : length entries ≤ passed + more
+      → ◌≡◌ {A = ℕ} 8 (cond (ltb (crossable marks entries) (length entries)) 7 8)
+  eight l = sym (rw (← all, le-ltb (passed + more) (length entries) l))
+
 pub overflow_add-crossed : goal.overflow_add-crossed
 overflow_add-crossed c =
     let (marks, h) = c.requires in
@@ -56,18 +67,10 @@ mark_again-requires c =
 
 pub returns-then-crossed-entries : goal.returns-then-crossed-entries
 returns-then-crossed-entries c = λ marks h.
-    let entries = c.args.entries.now in
-    let told = rw (part_from entries c.args.passed) at c.cross_out.ensures in
-    let same = all h told.value in (
-      back h told.value told.marks_after c.mark_again.ensures,
-      sym (rw (lt-ltb (crossable marks entries) (length entries) (omega arith))),
-    )
+    let told = rw (part_from c.args.entries.now c.args.passed) at c.cross_out.ensures in
+    (back h told.value told.marks_after c.mark_again.ensures, seven h told.value c.if-crossed-entries.true)
 
 pub returns-else-crossed-entries : goal.returns-else-crossed-entries
 returns-else-crossed-entries c = λ marks h.
-    let entries = c.args.entries.now in
-    let told = rw (part_from entries c.args.passed) at c.cross_out.ensures in
-    let same = all h told.value in (
-      back h told.value told.marks_after c.mark_again.ensures,
-      sym (rw (le-ltb (crossable marks entries) (length entries) (omega arith))),
-    )
+    let told = rw (part_from c.args.entries.now c.args.passed) at c.cross_out.ensures in
+    (back h told.value told.marks_after c.mark_again.ensures, eight h told.value c.if-crossed-entries.false)
