@@ -1,25 +1,54 @@
 -- `work_cycles` works one cycle a turn. The invariant: the rules' run from the start is the run of the cycles left,
--- from the lists as they are. Besides, `work` has what the next cycle asks, no stamp is above the cycles worked, and the
--- lists have kept their lengths.
+-- from the lists as they are. Besides, `work` has what the next cycle asks, no stamp is above the cycles worked, and
+-- the lists have kept their lengths.
 use mathlib.Core.Path.{◌≡◌, refl, ◌∙◌, subst}
-use Prim.Native.Nat.{ℕ, ◌+◌, ◌≤◌, zero-le}
+use mathlib.Core.List.{List}
+use mathlib.Core.Logic.{◌≢◌}
+use Prim.Native.Nat.{ℕ, ◌+◌, ◌-◌, ◌<◌, zero-le}
 use native.Mathlib.Omega.{arith}
-use lib.ListN.{length, drop, set}
+use lib.ListN.{length, get_or, take, drop}
 use borrow.Author.Rules.{rules}
-use Rattle.semantics.specs.Program.{Program}
-use Rattle.semantics.specs.State.{State, mark_count}
+use Rattle.semantics.specs.State.{State}
 use Rattle.semantics.proofs.Lists.QuestionLaws.{accepted}
 use Rattle.semantics.proofs.Order.CycleOrder.{fits_lengths}
 use Rattle.program.specs.Answer.{program_of}
 use Rattle.player.specs.Begin.{state_of}
 use Rattle.player.specs.Claims.{Aged}
-use Rattle.player.specs.Cycle.{Runnable, CycleAnswer, WorkedCycle}
+use Rattle.player.specs.Cycle.{Runnable, Carried, CycleAnswer, WorkedCycle}
+use Rattle.player.specs.Run.{RunAnswer}
 use Rattle.player.proofs.MaskLaws.{each_width}
 use Rattle.player.proofs.StampLaws.{aged_first, stamp-set, fresh_next}
 use Rattle.player.proofs.PartLaws.{part_from}
-use Rattle.player.proofs.RunningLaws.{Progress, none_worked}
-use Rattle.player.proofs.RunningLaws.{all-worked, no_mark, one_refused, one_worked}
+use Rattle.player.proofs.RunningLaws.{none_worked, all-worked, no_mark, one_refused, one_worked}
+use Rattle.player.proofs.cycles.work_cycles.Invariants.{RunTo}
 use Rattle.player.proofs.cycles.work_cycles.Goals as goal
+
+-- One turn with a cycle: the run has come to these lists, m of their marks stand, and the cycle was lent the part of
+-- the book that is not read yet.
+module _ {exprs nodes widths values marks counts before book claims₀ work claims : List ℕ} {n k read m number : ℕ}
+    {s₀ s' : State} (so_far : RunTo exprs nodes widths n s₀ book (state_of values marks counts) k read)
+    (carried : Carried exprs nodes widths values marks before) (counted : m ≡ get_or before 2305 0)
+    (worked : (widths : List ℕ) (vars chans : ℕ) → let P = program_of exprs nodes widths vars chans in
+    Runnable P (state_of values marks counts) → Carried exprs nodes widths values marks before
+    → WorkedCycle P (state_of values marks counts) (take (length book - read) (drop read book)) claims₀ number s'
+    work claims)
+    (l : k < n) (some : m ≢ 0) where
+  -- its answer is the rules' by that part
+  answered : (vars chans : ℕ) → let P = program_of exprs nodes widths vars chans in Runnable P s₀
+      → CycleAnswer P (state_of values marks counts) (drop read book) number s'
+  answered vars chans r =
+      rw (part_from book read) at (worked widths vars chans (so_far vars chans r).runnable carried).answer
+
+  -- a cycle that is refused ends the run
+  turn_refused : number ≢ 0 → (vars chans : ℕ) → let P = program_of exprs nodes widths vars chans in Runnable P s₀
+      → RunAnswer P n s₀ book number 0 k s'
+  turn_refused z vars chans r =
+      one_refused r (so_far vars chans r) (counted ∙ carried.tally) l some (answered vars chans r) z
+
+  -- with one that is worked the run has come a cycle further
+  turn_worked : number ≡ 0 → RunTo exprs nodes widths n s₀ book s' (k + 1) (read + m)
+  turn_worked z vars chans r =
+      one_worked r (so_far vars chans r) (counted ∙ carried.tally) l some (rw z at (answered vars chans r))
 
 -- no cycle is asked for
 pub returns-then-cycles-eq0 : goal.returns-then-cycles-eq0
@@ -46,133 +75,48 @@ fill-requires c =
 pub loop-worked-init : goal.loop-worked-init
 loop-worked-init c = (λ vars chans r. none_worked r, zero-le, c.fill.ensures _, aged_first, refl, refl, refl)
 
+-- ---- a turn
+
 pub returns-then-m-eq0 : goal.returns-then-m-eq0
 returns-then-m-eq0 c =
-    let counted : c.tally-m.result ≡ mark_count c.loop-worked.marks =
-    c.tally-m.ensures ∙ c.loop-worked.invariant.2.tally in
+    let l = c.loop-worked in
     let stop = c.stopped-then-m-eq0.ensures in
     λ vars chans r. rw (stop.0, stop.1, stop.2)
-    (no_mark r (c.loop-worked.invariant.0 vars chans r) counted c.if-m-eq0.true)
+    (no_mark r (l.invariant.0 vars chans r) (c.tally-m.ensures ∙ l.invariant.2.tally) c.if-m-eq0.true)
 
-pub work_cycle-number-requires : goal.work_cycle-number-requires
-work_cycle-number-requires c =
-    let l = c.loop-worked in
-    let r = c.requires in
-    let a = c.args in
-    record {
-      by_index = (a.widths.now, r.0, r.1, (l.invariant.0 r.0 r.1 r.2).runnable, l.invariant.2);
-      fresh = fresh_next l.invariant.3;
-    }
+pub work_cycle-number-requires-clause-fresh : goal.work_cycle-number-requires-clause-fresh
+work_cycle-number-requires-clause-fresh c = fresh_next c.loop-worked.invariant.3
 
 pub returns-then-number-ne0 : goal.returns-then-number-ne0
 returns-then-number-ne0 c =
-    let counted : c.tally-m.result ≡ mark_count c.loop-worked.marks =
-    c.tally-m.ensures ∙ c.loop-worked.invariant.2.tally in
-    let left : State =
-    let lists = c.work_cycle-number.new in state_of lists.values lists.marks lists.counts in
-    let program : ℕ → ℕ → Program = λ vars chans.
-    let a = c.args in
-    program_of a.exprs.now a.nodes.now a.widths.now vars chans in let Asked : ℕ → ℕ → Type 0 = λ vars chans.
-    let a = c.args in
-    Runnable (program vars chans) (state_of a.values.now a.marks.now a.counts.now) in
-    let worked-cycle : (vars chans : ℕ) → Asked vars chans
-    → let l = c.loop-worked in
-    WorkedCycle (program vars chans) (state_of l.values l.marks l.counts)
-    (drop l.read c.args.book.now) (set l.claims 3584 (l.worked + 1)) c.work_cycle-number.result
-    left c.work_cycle-number.new.work c.work_cycle-number.new.claims = λ vars chans r.
     let l = c.loop-worked in
-    let a = c.args in
-    rw (part_from a.book.now l.read) at
-    (c.work_cycle-number.ensures a.widths.now vars chans (l.invariant.0 vars chans r).runnable l.invariant.2) in
     let stop = c.stopped-then-number-ne0.ensures in
     λ vars chans r. rw (stop.0, stop.1, stop.2)
-    (one_refused r (c.loop-worked.invariant.0 vars chans r) counted c.loop-worked-test.true
-    c.if-m-eq0.false
-    (worked-cycle vars chans r).answer c.if-number-ne0.true)
+    (turn_refused l.invariant.0 l.invariant.2 c.tally-m.ensures c.work_cycle-number.ensures c.loop-worked-test.true
+    c.if-m-eq0.false c.if-number-ne0.true vars chans r)
 
 -- the entries read are entries of the book
 pub overflow_add-read : goal.overflow_add-read
 overflow_add-read c =
-    let counted : c.tally-m.result ≡ mark_count c.loop-worked.marks =
-    c.tally-m.ensures ∙ c.loop-worked.invariant.2.tally in
-    let left : State =
-    let lists = c.work_cycle-number.new in state_of lists.values lists.marks lists.counts in
-    let program : ℕ → ℕ → Program = λ vars chans.
-    let a = c.args in
-    program_of a.exprs.now a.nodes.now a.widths.now vars chans in let Asked : ℕ → ℕ → Type 0 = λ vars chans.
-    let a = c.args in
-    Runnable (program vars chans) (state_of a.values.now a.marks.now a.counts.now) in
-    let worked-cycle : (vars chans : ℕ) → Asked vars chans
-    → let l = c.loop-worked in
-    WorkedCycle (program vars chans) (state_of l.values l.marks l.counts)
-    (drop l.read c.args.book.now) (set l.claims 3584 (l.worked + 1)) c.work_cycle-number.result
-    left c.work_cycle-number.new.work c.work_cycle-number.new.claims = λ vars chans r.
     let l = c.loop-worked in
-    let a = c.args in
-    rw (part_from a.book.now l.read) at
-    (c.work_cycle-number.ensures a.widths.now vars chans (l.invariant.0 vars chans r).runnable l.invariant.2) in
-    let next : c.work_cycle-number.result ≡ 0 → (vars chans : ℕ) → Asked vars chans
-    → let l = c.loop-worked in
-    let a = c.args in
-    Progress (program vars chans) a.cycles (state_of a.values.now a.marks.now a.counts.now)
-    a.book.now left (l.worked + 1) (l.read + c.tally-m.result) = λ z vars chans r.
-    let l = c.loop-worked in
-    one_worked r (l.invariant.0 vars chans r) counted c.loop-worked-test.true
-    c.if-m-eq0.false
-    (subst
-    (λ (q : ℕ). CycleAnswer (program vars chans) (state_of l.values l.marks l.counts)
-    (drop l.read c.args.book.now) q left)
-    z (worked-cycle vars chans r).answer) in
-    let read-inside : c.loop-worked.read + c.tally-m.result ≤ length c.args.book.now =
     let r = c.requires in
-    (next c.if-number-ne0.false r.0 r.1 r.2).inside in
-    omega (arith, read-inside)
-
-pub overflow_add-worked : goal.overflow_add-worked
-overflow_add-worked c =
-    omega (arith, c.loop-worked-test.true, c.ranges.cycles.fits)
+    let next = turn_worked l.invariant.0 l.invariant.2 c.tally-m.ensures c.work_cycle-number.ensures
+    c.loop-worked-test.true c.if-m-eq0.false c.if-number-ne0.false r.0 r.1 r.2 in
+    omega (arith, next.inside)
 
 pub loop-worked-preserved : goal.loop-worked-preserved
 loop-worked-preserved c =
-    let counted : c.tally-m.result ≡ mark_count c.loop-worked.marks =
-    c.tally-m.ensures ∙ c.loop-worked.invariant.2.tally in
-    let left : State =
-    let lists = c.work_cycle-number.new in state_of lists.values lists.marks lists.counts in
-    let program : ℕ → ℕ → Program = λ vars chans.
-    let a = c.args in
-    program_of a.exprs.now a.nodes.now a.widths.now vars chans in let Asked : ℕ → ℕ → Type 0 = λ vars chans.
-    let a = c.args in
-    Runnable (program vars chans) (state_of a.values.now a.marks.now a.counts.now) in
-    let worked-cycle : (vars chans : ℕ) → Asked vars chans
-    → let l = c.loop-worked in
-    WorkedCycle (program vars chans) (state_of l.values l.marks l.counts)
-    (drop l.read c.args.book.now) (set l.claims 3584 (l.worked + 1)) c.work_cycle-number.result
-    left c.work_cycle-number.new.work c.work_cycle-number.new.claims = λ vars chans r.
     let l = c.loop-worked in
-    let a = c.args in
-    rw (part_from a.book.now l.read) at
-    (c.work_cycle-number.ensures a.widths.now vars chans (l.invariant.0 vars chans r).runnable l.invariant.2) in
-    let next : c.work_cycle-number.result ≡ 0 → (vars chans : ℕ) → Asked vars chans
-    → let l = c.loop-worked in
-    let a = c.args in
-    Progress (program vars chans) a.cycles (state_of a.values.now a.marks.now a.counts.now)
-    a.book.now left (l.worked + 1) (l.read + c.tally-m.result) = λ z vars chans r.
-    let l = c.loop-worked in
-    one_worked r (l.invariant.0 vars chans r) counted c.loop-worked-test.true
-    c.if-m-eq0.false
-    (subst
-    (λ (q : ℕ). CycleAnswer (program vars chans) (state_of l.values l.marks l.counts)
-    (drop l.read c.args.book.now) q left)
-    z (worked-cycle vars chans r).answer) in
-    let read-inside : c.loop-worked.read + c.tally-m.result ≤ length c.args.book.now =
     let r = c.requires in
-    (next c.if-number-ne0.false r.0 r.1 r.2).inside in
-    let r = c.requires in
-    let done = worked-cycle r.0 r.1 r.2 in (
-      next c.if-number-ne0.false,
-      read-inside,
-      done.carried c.if-number-ne0.false,
-      subst (Aged _) (stamp-set c.loop-worked.invariant.3) (done.aged c.if-number-ne0.false),
+    let z = c.if-number-ne0.false in
+    let next = turn_worked l.invariant.0 l.invariant.2 c.tally-m.ensures c.work_cycle-number.ensures
+    c.loop-worked-test.true c.if-m-eq0.false z in
+    let runnable = (l.invariant.0 r.0 r.1 r.2).runnable in
+    let done = c.work_cycle-number.ensures c.args.widths.now r.0 r.1 runnable l.invariant.2 in (
+      next,
+      (next r.0 r.1 r.2).inside,
+      done.carried z,
+      subst (Aged _) (stamp-set l.invariant.3) (done.aged z),
       search rules,
       search rules,
       search rules,
@@ -181,8 +125,5 @@ loop-worked-preserved c =
 pub returns : goal.returns
 returns c =
     let stop = c.stopped-2.ensures in
-    λ vars chans r. rw (
-      stop.0,
-      stop.1,
-      stop.2,
-    ) (all-worked r (c.loop-worked.invariant.0 vars chans r) c.loop-worked-test.false)
+    λ vars chans r. rw (stop.0, stop.1, stop.2)
+    (all-worked r (c.loop-worked.invariant.0 vars chans r) c.loop-worked-test.false)

@@ -2,10 +2,8 @@
 use mathlib.Core.Path.{sym, ◌∙◌}
 use native.Mathlib.Omega.{arith}
 use borrow.Author.Rules.{rules}
-use borrow.Author.Tests.{not-true}
 use Rattle.player.proofs.RightSideLaws.{storing_entry, storing_room}
 use Rattle.player.proofs.RightSideLaws.{right_none, right_next, right_skip, right_more, right_refused, right-all}
-use Rattle.std.proofs.lemmas.Bool.{not_from_false}
 use Rattle.player.proofs.stores.work_right_sides.Goals as goal
 use Rattle.player.proofs.stores.work_right_sides.Goals.{then-stores+else-not-work_right_side, else-stores}
 
@@ -36,16 +34,14 @@ work_right_side-requires c =
 
 pub returns-then-not-work_right_side : goal.returns-then-not-work_right_side
 returns-then-not-work_right_side c =
-    let one = c.work_right_side in
     let l = c.loop-k in
-    let a = c.args in
     let more = c.loop-k-test.true in
     λ values x m.
     let h = l.invariant.1 values x m in
     let next = right_next x h more in
     let s = sym (c.stores.ensures (storing_entry next)) ∙ c.if-stores.true in
-    right_refused x h more (one.ensures a.entries.now values l.k next s h.memo)
-    (not-true one.result (not_from_false _ c.if-not-work_right_side.true))
+    right_refused x h more (c.work_right_side.ensures c.args.entries.now values l.k next s h.memo)
+    c.if-not-work_right_side.true
 
 pub overflow_add-n : goal.overflow_add-n
 overflow_add-n c =
@@ -57,7 +53,6 @@ overflow_add-n c =
 pub loop-k-preserved : goal.loop-k-preserved
 loop-k-preserved c =
     let l = c.loop-k in
-    let a = c.args in
     let more = c.loop-k-test.true in
     elim c.if-stores.branch [
       | then-stores+else-not-work_right_side w ↦ (
@@ -67,7 +62,7 @@ loop-k-preserved c =
             let next = right_next x h more in
             let s = sym (c.stores.ensures (storing_entry next)) ∙ w.if-stores.true in
             rw (w.work-is, w.claims-is, w.n-is)
-            (right_more x h more (w.work_right_side.ensures a.entries.now values l.k next s h.memo)
+            (right_more x h more (w.work_right_side.ensures c.args.entries.now values l.k next s h.memo)
             w.if-not-work_right_side.false),
       )
       | else-stores w ↦ (
