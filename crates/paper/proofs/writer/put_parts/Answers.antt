@@ -21,7 +21,7 @@ returns c =
     let three : length (es ++ ns ++ vs) ≡ length (es ++ ns) + length vs = length-append (es ++ ns) vs in
     let e = c.put_words.ensures ∙ put_next [] es 0 file file refl refl in
     let n = c.put_words-2.ensures ∙ put_next es ns _ _ file refl e in
-    let at-values = 2 * length es + 2 * length ns in
-    let at-widths = at-values + 2 * length vs in
-    let v = c.put_words-3.ensures ∙ put_next (es ++ ns) vs at-values _ file (omega arith) n in
-    c.put_words-4.ensures ∙ put_next (es ++ ns ++ vs) ws at-widths _ file (omega arith) v
+    let at_values = 2 * length es + 2 * length ns in
+    let at_widths = at_values + 2 * length vs in
+    let v = c.put_words-3.ensures ∙ put_next (es ++ ns) vs at_values _ file (omega arith) n in
+    c.put_words-4.ensures ∙ put_next (es ++ ns ++ vs) ws at_widths _ file (omega arith) v

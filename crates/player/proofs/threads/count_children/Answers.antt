@@ -24,16 +24,16 @@ end_of-child-requires c =
 
 pub loop-child-smaller : goal.loop-child-smaller
 loop-child-smaller c =
-    let at-child : Sibling c.args.nodes.now c.args.h c.loop-child.child =
+    let at_child : Sibling c.args.nodes.now c.args.h c.loop-child.child =
     sibling _ c.requires.nodes_ok _ c.loop-child.child (omega arith)
-    (omega arith) (omega arith) in let s = at-child in omega arith
+    (omega arith) (omega arith) in let s = at_child in omega arith
 
 pub loop-child-preserved : goal.loop-child-preserved
 loop-child-preserved c =
-    let at-child : Sibling c.args.nodes.now c.args.h c.loop-child.child =
+    let at_child : Sibling c.args.nodes.now c.args.h c.loop-child.child =
     sibling _ c.requires.nodes_ok _ c.loop-child.child (omega arith)
     (omega arith) (omega arith) in
-    let s = at-child in
+    let s = at_child in
     let m = child_count-more _ c.requires.nodes_ok c.loop-child.child
     c.end_of-end.result (omega arith) (omega arith) in
     (omega arith, omega arith, rw c.end_of-child.ensures (omega arith))
