@@ -10,16 +10,21 @@ use lib.ListN.{length, take, drop, replicate, length-drop, length-replicate}
 use lib.Seq.{paste, length-paste, take-paste, length-take-le, drop-drop}
 use borrow.Author.Tests.{leb-true, ltb-false, le-ltb}
 use Rattle.semantics.specs.Bytes.{words_of}
-use Rattle.semantics.specs.Check.{sizes_ok}
+use Rattle.semantics.specs.Program.{Program}
+use Rattle.semantics.specs.Check.{sizes_ok, fault_item}
 use Rattle.semantics.specs.File.{Sizes, Parts, exprs_back, sizes_in, parts_at, parts_in, program_from, program_in, file_ok}
 use Rattle.semantics.specs.FileCalls.{all_fit, all_filled, sizes_answer}
+use Rattle.semantics.proofs.Lists.FaultLaws.{no_item}
 use Rattle.semantics.proofs.Lists.Logic.{conjuncts, or_left, or_right}
 use Rattle.semantics.proofs.Lists.QuestionLaws.{sized_limits}
 use Rattle.semantics.proofs.Files.BytesLaws.{length-words}
 use Rattle.semantics.proofs.Files.FileLaws.{file_fits, parts_in_fit}
+use Rattle.semantics.proofs.Files.FileCallLaws.{sizes_yes, sizes_no}
+use Rattle.std.specs.Prelude.{Option, Some, None, MatchOption}
 use Rattle.program.specs.Answer.{program_of, CheckAnswer}
-use Rattle.program.proofs.CheckLaws.{answer_1}
-use Rattle.paper.specs.Sizes.{sizes_from, SizesAnswer}
+use Rattle.program.proofs.CheckLaws.{first_1}
+use Rattle.paper.specs.declared.lengths.FileSizes.{FileSizes}
+use Rattle.paper.specs.Sizes.{sizes_from, sizes_in_code, given, SizesAnswer}
 use Rattle.paper.proofs.WordLaws.{taken}
 
 -- four numbers are the rules' sizes
@@ -31,6 +36,15 @@ sizes_answer_lem file n e v c right = record {
   right_vars = ap (λ (x : Sizes). x.variables) right;
   right_chans = ap (λ (x : Sizes). x.channels) right;
 }
+
+-- the sizes of a file, where the bytes are one
+abbrev pub IsSizes : List ℕ → FileSizes → Type 0
+IsSizes file sizes = (file_ok file ≡ true) × (sizes_in_code sizes ≡ sizes_in file)
+
+pub given_answer : (file : List ℕ) (r : Option FileSizes) → MatchOption r (file_ok file ≡ false) (IsSizes file)
+    → SizesAnswer file (given r).nodes (given r).exprs (given r).vars (given r).chans
+given_answer file None none_there = sizes_answer_lem file 0 0 0 0 (sym (sizes_no file none_there))
+given_answer file (Some s) known = sizes_answer_lem file _ _ _ _ (known.1 ∙ sym (sizes_yes file known.0))
 
 -- question 13 of a reader, from the sizes
 pub room_for_parts : (file : List ℕ) → file_ok file ≡ true → (c : Sizes) → c ≡ sizes_in file → (b : Parts)
@@ -143,6 +157,25 @@ module _ (file : List ℕ) (ok : file_ok file ≡ true) (c : Sizes) (right : c �
       (λ i. program_of (e i) (n i) (w i) (right i).variables (right i).channels)
       ∙ ap (program_from (sizes_in file)) (sym parts_by_place)
 
+  -- the same where the parts were taken into lists of zeros, from their places on
+  pub program_copied : (e n v : ℕ) → e ≡ 3 * c.exprs → n ≡ 5 * c.nodes → v ≡ c.variables
+      → e ≤ 3072 → n ≤ 5120 → v ≤ 256 → (exprs nodes widths : List ℕ)
+      → exprs ≡ paste (replicate 3072 0) 0 (drop 0 (words_of file)) e
+      → nodes ≡ paste (replicate 5120 0) 0 (drop e (words_of file)) n
+      → widths ≡ paste (replicate 256 0) 0 (drop (e + n + v) (words_of file)) v
+      → program_of (take e exprs) (take n nodes) (take v widths) c.variables c.channels ≡ program_in file
+  program_copied e n v is_e is_n is_v le ln lv exprs nodes widths es ns ws =
+      let words = words_of file in
+      let first = copied 0 e 3072 exprs es le (omega arith) in
+      let second = copied e n 5120 nodes ns ln (omega arith) in
+      let third = copied (e + n + v) v 256 widths ws lv (omega arith) in
+      let exprs_same : take e exprs ≡ take (3 * c.exprs) words = rw (← is_e) first.same in
+      let nodes_same : take n nodes ≡ take (5 * c.nodes) (drop (3 * c.exprs) words) =
+      rw (← is_n, ← is_e) second.same in
+      let widths_same : take v widths ≡ take c.variables (drop (3 * c.exprs + 5 * c.nodes + c.variables) words) =
+      rw (← is_v, ← is_n, ← is_e) third.same in
+      program_taken _ _ _ exprs_same nodes_same widths_same
+
   -- the parts are no longer than those of an accepted program
   pub in_limits : ltb 3072 (3 * c.exprs) || ltb 5120 (5 * c.nodes) || ltb 256 c.variables ≡ false
       → (3 * c.exprs ≤ 3072) × (5 * c.nodes ≤ 5120) × (c.variables ≤ 256)
@@ -153,10 +186,15 @@ module _ (file : List ℕ) (ok : file_ok file ≡ true) (c : Sizes) (right : c �
         ltb-false _ _ (or_right (ltb 3072 (3 * c.exprs) || ltb 5120 (5 * c.nodes)) _ h),
       )
 
+  refused_1 : (P : Program) → sizes_ok P ≡ false → CheckAnswer P 1 0
+  refused_1 P fails =
+      let e = first_1 P fails in
+      record { right_number = e; right_item = sym (no_item P 1 refl) ∙ ap (fault_item P) e }
+
   -- a part that is longer than any accepted program's
   pub too_long : ltb 3072 (3 * c.exprs) || ltb 5120 (5 * c.nodes) || ltb 256 c.variables ≡ true
       → CheckAnswer (program_in file) 1 0
-  too_long long = answer_1 (program_in file) (pick (sizes_ok (program_in file)) refl)
+  too_long long = refused_1 (program_in file) (pick (sizes_ok (program_in file)) refl)
     where
       pick : (b : Bool) → sizes_ok (program_in file) ≡ b → b ≡ false
       pick false e = refl

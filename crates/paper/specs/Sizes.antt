@@ -1,12 +1,26 @@
 -- What sizes promises, and what the word for C holds.
-use Rattle.std.specs.Prelude.{◌≡◌, List, ℕ, ◌/◌, ◌%◌}
+use Rattle.std.specs.Prelude.{◌≡◌, Bool, true, false, List, ℕ, Option, Some, None, ◌/◌, ◌%◌}
 use Rattle.semantics.specs.File.{Sizes}
 use Rattle.semantics.specs.FileCalls.{sizes_answer}
+use Rattle.paper.specs.declared.lengths.FileSizes.{FileSizes}
 
 -- The sizes that four numbers are.
 abbrev pub sizes_from : ℕ → ℕ → ℕ → ℕ → Sizes
 sizes_from nodes exprs vars chans =
     record { nodes = nodes; exprs = exprs; variables = vars; channels = chans }
+
+-- The rules' sizes of those in code.
+abbrev pub sizes_in_code : FileSizes → Sizes
+sizes_in_code s = sizes_from s.nodes s.exprs s.vars s.chans
+
+-- The sizes that are given, or 0 for each.
+abbrev pub given : Option FileSizes → FileSizes
+given (Some sizes) = sizes
+given None = record { nodes = 0; exprs = 0; vars = 0; chans = 0 }
+
+abbrev pub is_given : Option FileSizes → Bool
+is_given (Some sizes) = true
+is_given None = false
 
 -- The rules' numbers of nodes, expressions, variables and channels.
 pub record SizesAnswer (file : List ℕ) (nodes exprs vars chans : ℕ) : Type 0 where

@@ -7,21 +7,25 @@ ghost use Rattle.paper.specs.Sizes.{nodes_in, exprs_in, vars_in, chans_in, Sizes
 ghost use Rattle.paper.specs.Write.{WriteAnswer};
 
 use super::FileSizes;
+use program::Program;
 use program::word::word_of;
 
 fn word_of_sizes(sizes: FileSizes) -> u64
-    ensures { (nodes_in result ≡ sizes.nodes) × (exprs_in result ≡ sizes.exprs) × (vars_in result ≡ sizes.vars)
-        × (chans_in result ≡ sizes.chans) }
+    ensures nodes { nodes_in result ≡ sizes.nodes }
+    ensures exprs { exprs_in result ≡ sizes.exprs }
+    ensures vars { vars_in result ≡ sizes.vars }
+    ensures chans { chans_in result ≡ sizes.chans }
 {
-    let low = (sizes.nodes as u64) + 65536 * (sizes.exprs as u64);
-    let high = (sizes.vars as u64) + 65536 * (sizes.chans as u64);
+    let low = u64::from(sizes.nodes) + 65536 * u64::from(sizes.exprs);
+    let high = u64::from(sizes.vars) + 65536 * u64::from(sizes.chans);
     low + 4294967296 * high
 }
 
+// 0 for each where the bytes are no file.
 pub fn paper_sizes(file: &[u8]) -> u64
     ensures { SizesAnswer file.now (nodes_in result) (exprs_in result) (vars_in result) (chans_in result) }
 {
-    word_of_sizes(super::sizes(file))
+    word_of_sizes(super::sizes(file).unwrap_or_default())
 }
 
 pub fn paper_read(
@@ -36,8 +40,7 @@ pub fn paper_read(
         (number_in result) (item_in result)
         (parts_from exprs.new nodes.new values.new widths.new) }
 {
-    let answer = super::read(file, exprs, nodes, values, widths);
-    word_of(answer.number, answer.item)
+    word_of(super::read(file, exprs, nodes, values, widths))
 }
 
 pub fn paper_write(
@@ -53,6 +56,12 @@ pub fn paper_write(
         (program_of exprs.now nodes.now widths.now vars chans)
         values.now file.old (number_in result) (item_in result) file.new }
 {
-    let answer = super::write(exprs, nodes, widths, vars, chans, values, file);
-    word_of(answer.number, answer.item)
+    let program = Program {
+        exprs,
+        nodes,
+        widths,
+        vars,
+        chans,
+    };
+    word_of(super::write(program, values, file))
 }

@@ -1,27 +1,29 @@
 // What a file holds: its program is checked in lists of the reader's own, and only then are lent lists filled.
-ghost use Rattle.std.specs.Prelude.{◌≡◌, true};
-ghost use Rattle.semantics.specs.File.{parts_in, program_in, file_ok};
+ghost use Rattle.std.specs.Prelude.{◌≡◌, true, List, ℕ};
+ghost use Rattle.semantics.specs.File.{parts_in, program_in, file_ok, sizes_in};
 ghost use Rattle.semantics.specs.FileCalls.{all_fit, all_filled};
-ghost use Rattle.program.specs.Answer.{CheckAnswer};
+ghost use Rattle.program.specs.Answer.{CheckAnswer, number_of, item_of};
 ghost use Rattle.paper.specs.Read.{parts_from};
+ghost use Rattle.paper.specs.Sizes.{sizes_in_code};
 
-use super::trailer::sizes_in;
+use super::lengths::{FileSizes, Lengths};
 use super::words::take_words;
 use program::limits::{EXPRS_MAX, NODES_MAX, VARS_MAX};
-use program::{Checked, check};
+use program::{Program, Refusal, check};
 
 // What check asks of the program in a file. Parts that are longer than those of any accepted program break question 1,
 // so that the lists here are long enough for the others.
-pub fn check_in(file: &[u8]) -> Checked
-    requires { file_ok file.now ≡ true }
-    ensures { CheckAnswer (program_in file.now) result.number result.item }
+pub fn check_in(file: &[u8], sizes: FileSizes) -> Result<(), Refusal>
+    requires { (file_ok file.now ≡ true) × (sizes_in_code sizes ≡ sizes_in file.now) }
+    ensures { CheckAnswer (program_in file.now) (number_of result) (item_of result) }
 {
-    let sizes = sizes_in(file);
-    let e = 3 * (sizes.exprs as usize);
-    let n = 5 * (sizes.nodes as usize);
-    let v = sizes.vars as usize;
+    let Lengths {
+        exprs: e,
+        nodes: n,
+        vars: v,
+    } = sizes.lengths();
     if (3 * EXPRS_MAX < e) | (5 * NODES_MAX < n) | (VARS_MAX < sizes.vars) {
-        return Checked { number: 1, item: 0 };
+        return Err(Refusal::Sizes);
     }
     let mut exprs = [0u16; 3 * EXPRS_MAX];
     let mut nodes = [0u16; 5 * NODES_MAX];
@@ -29,47 +31,54 @@ pub fn check_in(file: &[u8]) -> Checked
     take_words(file, 0, e, &mut exprs);
     take_words(file, e, n, &mut nodes);
     take_words(file, e + n + v, v, &mut widths);
-    check(
-        &exprs[..e],
-        &nodes[..n],
-        &widths[..v],
-        sizes.vars,
-        sizes.chans,
-    )
+    check(Program {
+        exprs: &exprs[..e],
+        nodes: &nodes[..n],
+        widths: &widths[..v],
+        vars: sizes.vars,
+        chans: sizes.chans,
+    })?;
+    Ok(())
 }
 
 // Question 13: whether the parts of a file fit into lists of these lengths.
-pub fn parts_fit(file: &[u8], exprs: &[u16], nodes: &[u16], values: &[u16], widths: &[u16]) -> bool
-    requires { file_ok file.now ≡ true }
-    ensures { result ≡ all_fit (parts_in file.now)
-        (parts_from exprs.now nodes.now values.now widths.now) }
+pub fn parts_fit(
+    sizes: FileSizes,
+    exprs: &[u16],
+    nodes: &[u16],
+    values: &[u16],
+    widths: &[u16],
+) -> bool
+    ensures { (file : List ℕ) → file_ok file ≡ true → sizes_in_code sizes ≡ sizes_in file
+        → result ≡ all_fit (parts_in file) (parts_from exprs.now nodes.now values.now widths.now) }
 {
-    let sizes = sizes_in(file);
-    let v = sizes.vars as usize;
-    (3 * (sizes.exprs as usize) <= exprs.len())
-        & (5 * (sizes.nodes as usize) <= nodes.len())
-        & (v <= values.len())
-        & (v <= widths.len())
+    let lengths = sizes.lengths();
+    (lengths.exprs <= exprs.len())
+        & (lengths.nodes <= nodes.len())
+        & (lengths.vars <= values.len())
+        & (lengths.vars <= widths.len())
 }
 
 // Fills four lists with the parts of a file.
 pub fn fill_all(
     file: &[u8],
+    sizes: FileSizes,
     exprs: &mut [u16],
     nodes: &mut [u16],
     values: &mut [u16],
     widths: &mut [u16],
 )
-    requires { (file_ok file.now ≡ true)
-        × (all_fit (parts_in file.now) (parts_from exprs.old nodes.old values.old widths.old) ≡ true) }
+    requires is_file { (file_ok file.now ≡ true) × (sizes_in_code sizes ≡ sizes_in file.now) }
+    requires fit { all_fit (parts_in file.now) (parts_from exprs.old nodes.old values.old widths.old) ≡ true }
     ensures { parts_from exprs.new nodes.new values.new widths.new
         ≡ all_filled (parts_in file.now)
         (parts_from exprs.old nodes.old values.old widths.old) }
 {
-    let sizes = sizes_in(file);
-    let e = 3 * (sizes.exprs as usize);
-    let n = 5 * (sizes.nodes as usize);
-    let v = sizes.vars as usize;
+    let Lengths {
+        exprs: e,
+        nodes: n,
+        vars: v,
+    } = sizes.lengths();
     take_words(file, 0, e, exprs);
     take_words(file, e, n, nodes);
     take_words(file, e + n, v, values);

@@ -1,13 +1,13 @@
 // The trailer of a file: sizes, then the distances of the parts back from it. Question 12 is asked here.
-ghost use Rattle.std.specs.Prelude.{◌≡◌, ◌≤◌, ◌<◌, eqb, length, get_or};
+ghost use Rattle.std.specs.Prelude.{◌≡◌, ◌≤◌, ◌<◌, length, get_or, true, false, MatchOption};
 ghost use Rattle.semantics.specs.File.{trailer_in, sizes_in, exprs_back, nodes_back, values_back, widths_back, file_ok};
-ghost use Rattle.paper.specs.Sizes.{sizes_from};
+ghost use Rattle.paper.specs.Sizes.{sizes_in_code};
 
-use super::FileSizes;
+use super::lengths::{FileSizes, Lengths};
 use super::words::word_in;
 
 // The distances of the four parts, in words.
-#[derive(Clone, Copy)]
+#[derive(Clone, Copy, Debug)]
 pub struct Distances {
     pub exprs: usize,
     pub nodes: usize,
@@ -16,16 +16,17 @@ pub struct Distances {
 }
 
 pub fn distances_of(sizes: FileSizes) -> Distances
-    ensures { (result.exprs ≡ exprs_back (sizes_from sizes.nodes sizes.exprs sizes.vars sizes.chans))
-        × (result.nodes ≡ nodes_back (sizes_from sizes.nodes sizes.exprs sizes.vars sizes.chans))
-        × (result.values ≡ values_back (sizes_from sizes.nodes sizes.exprs sizes.vars sizes.chans))
-        × (result.widths ≡ widths_back (sizes_from sizes.nodes sizes.exprs sizes.vars sizes.chans)) }
+    ensures exprs { result.exprs ≡ exprs_back (sizes_in_code sizes) }
+    ensures nodes { result.nodes ≡ nodes_back (sizes_in_code sizes) }
+    ensures values { result.values ≡ values_back (sizes_in_code sizes) }
+    ensures widths { result.widths ≡ widths_back (sizes_in_code sizes) }
 {
-    let widths = sizes.vars as usize;
-    let values = widths + widths;
-    let nodes = 5 * (sizes.nodes as usize) + values;
+    let Lengths { exprs, nodes, vars } = sizes.lengths();
+    let widths = vars;
+    let values = vars + widths;
+    let nodes = nodes + values;
     Distances {
-        exprs: 3 * (sizes.exprs as usize) + nodes,
+        exprs: exprs + nodes,
         nodes,
         values,
         widths,
@@ -41,9 +42,9 @@ fn trailer_word(file: &[u8], k: usize) -> u16
 }
 
 // The sizes that a trailer has.
-pub fn sizes_in(file: &[u8]) -> FileSizes
+fn sizes_in(file: &[u8]) -> FileSizes
     requires { 16 ≤ length file.now }
-    ensures { sizes_from result.nodes result.exprs result.vars result.chans ≡ sizes_in file.now }
+    ensures { sizes_in_code result ≡ sizes_in file.now }
 {
     FileSizes {
         nodes: trailer_word(file, 0),
@@ -53,26 +54,21 @@ pub fn sizes_in(file: &[u8]) -> FileSizes
     }
 }
 
-// Whether word k of a trailer is a distance.
-fn distance_is(file: &[u8], k: usize, distance: usize) -> bool
-    requires { (16 ≤ length file.now) × (k < 8) }
-    ensures { result ≡ eqb (get_or (trailer_in file.now) k 0) distance }
-{
-    (trailer_word(file, k) as usize) == distance
-}
-
-// Question 12.
-pub fn file_ok(file: &[u8]) -> bool
-    ensures { result ≡ file_ok file.now }
+// Question 12: the sizes of a file, if the bytes are one.
+pub fn sizes_of_file(file: &[u8]) -> Option<FileSizes>
+    ensures { MatchOption result (file_ok file.now ≡ false)
+        (λ sizes. (file_ok file.now ≡ true) × (sizes_in_code sizes ≡ sizes_in file.now)) }
 {
     if file.len() < 16 {
-        return false;
+        return None;
     }
-    let back = distances_of(sizes_in(file));
-    (file.len() % 2 == 0)
-        & distance_is(file, 4, back.exprs)
-        & distance_is(file, 5, back.nodes)
-        & distance_is(file, 6, back.values)
-        & distance_is(file, 7, back.widths)
-        & (file.len() == 2 * back.exprs + 16)
+    let sizes = sizes_in(file);
+    let back = distances_of(sizes);
+    let ok = (file.len() % 2 == 0)
+        & (trailer_word(file, 4) as usize == back.exprs)
+        & (trailer_word(file, 5) as usize == back.nodes)
+        & (trailer_word(file, 6) as usize == back.values)
+        & (trailer_word(file, 7) as usize == back.widths)
+        & (file.len() == 2 * back.exprs + 16);
+    if ok { Some(sizes) } else { None }
 }

@@ -9,9 +9,7 @@ pub fn word_in(file: &[u8], k: usize) -> u16
     requires { 2 * k + 1 < length file.now }
     ensures { result ≡ get_or (words_of file.now) k 0 }
 {
-    let low = file[2 * k] as u16;
-    let high = file[2 * k + 1] as u16;
-    low + 256 * high
+    u16::from_le_bytes([file[2 * k], file[2 * k + 1]])
 }
 
 // Fills the first `count` elements of a list with the words of a file from word `from` on.
@@ -19,10 +17,8 @@ pub fn take_words(file: &[u8], from: usize, count: usize, list: &mut [u16])
     requires { (2 * (from + count) ≤ length file.now) × (count ≤ length list.old) }
     ensures { list.new ≡ paste list.old 0 (drop from (words_of file.now)) count }
 {
-    let mut i: usize = 0;
-    while i < count {
+    for i in 0..count {
         list[i] = word_in(file, from + i);
-        i += 1;
     }
 }
 
@@ -31,8 +27,9 @@ fn put_word(word: u16, file: &mut [u8], at: usize)
     requires { at + 1 < length file.old }
     ensures { file.new ≡ sets file.old at (bytes_of (word ∷ [])) }
 {
-    file[at] = (word % 256) as u8;
-    file[at + 1] = (word / 256) as u8;
+    let [low, high] = word.to_le_bytes();
+    file[at] = low;
+    file[at + 1] = high;
 }
 
 // Puts words into a file from byte `at` on.
@@ -41,9 +38,7 @@ pub fn put_words(words: &[u16], file: &mut [u8], at: usize)
     ensures { file.new
         ≡ paste file.old at (bytes_of words.now) (2 * length words.now) }
 {
-    let mut i: usize = 0;
-    while i < words.len() {
-        put_word(words[i], file, at + 2 * i);
-        i += 1;
+    for (i, word) in words.iter().enumerate() {
+        put_word(*word, file, at + 2 * i);
     }
 }

@@ -3,20 +3,28 @@ ghost use Rattle.std.specs.Prelude.{◌≡◌, ◌++◌, ◌+◌, ◌*◌, ◌�
 ghost use Rattle.semantics.specs.Bytes.{bytes_of};
 ghost use Rattle.semantics.specs.File.{exprs_back, trailer};
 ghost use Rattle.semantics.specs.FileCalls.{filled};
-ghost use Rattle.paper.specs.Sizes.{sizes_from};
+ghost use Rattle.program.specs.Answer.{program_in};
+ghost use Rattle.paper.specs.Sizes.{sizes_in_code};
 
-use super::FileSizes;
+use super::lengths::FileSizes;
 use super::trailer::distances_of;
 use super::words::put_words;
+use program::Program;
 
 // The parts, one after the other.
-pub fn put_parts(exprs: &[u16], nodes: &[u16], values: &[u16], widths: &[u16], file: &mut [u8])
-    requires { 2 * (length exprs.now + length nodes.now + length values.now + length widths.now)
-        ≤ length file.old }
+pub fn put_parts(program: Program, values: &[u16], file: &mut [u8])
+    requires { 2 * (length program.exprs.now + length program.nodes.now + length values.now
+        + length program.widths.now) ≤ length file.old }
     ensures { file.new ≡ filled
-        (bytes_of (exprs.now ++ nodes.now ++ values.now ++ widths.now))
+        (bytes_of (program.entry.exprs.now ++ program.entry.nodes.now ++ values.now ++ program.entry.widths.now))
         file.old }
 {
+    let Program {
+        exprs,
+        nodes,
+        widths,
+        ..
+    } = program;
     put_words(exprs, file, 0);
     let after_exprs = 2 * exprs.len();
     put_words(nodes, file, after_exprs);
@@ -27,8 +35,8 @@ pub fn put_parts(exprs: &[u16], nodes: &[u16], values: &[u16], widths: &[u16], f
 
 // The words of a trailer.
 pub fn trailer_of(sizes: FileSizes) -> [u16; 8]
-    requires { exprs_back (sizes_from sizes.nodes sizes.exprs sizes.vars sizes.chans) < 65536 }
-    ensures { result ≡ trailer (sizes_from sizes.nodes sizes.exprs sizes.vars sizes.chans) }
+    requires { exprs_back (sizes_in_code sizes) < 65536 }
+    ensures { result ≡ trailer (sizes_in_code sizes) }
 {
     let back = distances_of(sizes);
     [

@@ -1,133 +1,161 @@
 // An expression in infix. Operands are shared, so that an expression written out whole could be very long: it is
 // written to a small depth, and what lies deeper by its name, as e7.
-use super::line::{Line, WIDTH};
-use program::ops::{ADD, AND, BELOW, EQUAL, MUL, NUMBER, SUB, VARIABLE};
-use program::words::{op_word, p_word, q_word};
+ghost use Rattle.std.specs.Prelude.{◌<◌, IfSome};
+
+use super::line::length_of;
+use program::{Binary, Expr, Op, Program, UnknownOp};
+use std::fmt;
 
 // How deep an expression is written out.
 const DEPTH: u16 = 3;
 
-fn sign_of(op: u16) -> u8 {
-    match op {
-        ADD => b'+',
-        SUB => b'-',
-        MUL => b'*',
-        AND => b'&',
-        EQUAL => b'=',
-        _ => b'<',
-    }
-}
-
-// How closely an op binds.
-fn rank_of(op: u16) -> u16 {
-    match op {
-        ADD..=SUB => 2,
-        MUL => 3,
-        _ => 1,
-    }
-}
-
-// How closely the operands of an op have to bind to stand without parentheses.
-fn left_rank(op: u16) -> u16 {
-    match op {
-        ADD..=SUB | EQUAL..=BELOW => 2,
-        MUL => 3,
-        _ => 4,
-    }
-}
-
-fn right_rank(op: u16) -> u16 {
-    match op {
-        ADD..=SUB => 3,
-        EQUAL..=BELOW => 2,
-        _ => 4,
-    }
-}
-
-// The parenthesis of an expression that binds less closely than rank.
-fn put_parenthesis(op: u16, rank: u16, parenthesis: u8, line: Line) -> Line {
-    if rank_of(op) < rank {
-        line.byte(parenthesis)
-    } else {
-        line
-    }
-}
-
-fn put_sign(op: u16, line: Line) -> Line {
-    line.byte(b' ').byte(sign_of(op)).byte(b' ')
-}
-
-fn note(e: usize, named: &mut [u8]) {
-    if e < named.len() {
-        named[e] = 1;
-    }
-}
-
-// The name of an expression, which is noted in the list of those that are named.
-fn put_named(e: u16, named: &mut [u8], line: Line) -> Line {
-    note(e as usize, named);
-    line.name(b'e', e)
-}
-
-// Whether an expression has operands that can be written out: there is such an expression, and its op is known.
-fn has_operands(exprs: &[u16], e: u16) -> bool {
-    let op = op_word(exprs, e);
-    ((e as usize) < exprs.len() / 3) & (ADD <= op) & (op <= BELOW)
-}
-
-// An expression without its operands: a number, a variable, or a name.
-fn put_atom(exprs: &[u16], e: u16, named: &mut [u8], line: Line) -> Line {
-    if exprs.len() / 3 <= (e as usize) {
-        return line.name(b'e', e);
-    }
-    match op_word(exprs, e) {
-        NUMBER => line.word(p_word(exprs, e)),
-        VARIABLE => line.name(b'v', p_word(exprs, e)),
-        ADD..=BELOW => put_named(e, named, line),
-        _ => line.put(b"op ").word(op_word(exprs, e)),
-    }
-}
-
 // An expression to a depth. It stands in parentheses where it binds less closely than rank.
-fn put_to_depth(
-    exprs: &[u16],
+#[derive(Clone, Copy)]
+pub struct Expression<'a> {
+    program: Program<'a>,
     e: u16,
     depth: u16,
     rank: u16,
-    named: &mut [u8],
-    line: Line,
-) -> Line {
-    if depth == 0 {
-        return put_atom(exprs, e, named, line);
-    }
-    if !has_operands(exprs, e) {
-        return put_atom(exprs, e, named, line);
-    }
-    let op = op_word(exprs, e);
-    let p = p_word(exprs, e);
-    let q = q_word(exprs, e);
-    let line = put_parenthesis(op, rank, b'(', line);
-    let line = put_to_depth(exprs, p, depth - 1, left_rank(op), named, line);
-    let line = put_sign(op, line);
-    let line = put_to_depth(exprs, q, depth - 1, right_rank(op), named, line);
-    put_parenthesis(op, rank, b')', line)
 }
 
-// The greatest depth up to DEPTH, and no less than 1, to which an expression fits into the line.
-fn fitting_depth(exprs: &[u16], e: u16, line: Line) -> u16 {
-    let mut unnoted = [0u8; 1];
-    let mut depth = DEPTH;
-    while 1 < depth {
-        if put_to_depth(exprs, e, depth, 0, &mut unnoted, line).len < WIDTH {
-            return depth;
+// The sign of an op, how closely it binds, and how closely its operands have to bind to stand without parentheses.
+#[derive(Clone, Copy)]
+struct Sign {
+    sign: char,
+    rank: u16,
+    left: u16,
+    right: u16,
+}
+
+// An op between its operands.
+#[derive(Clone, Copy)]
+struct Step<'a> {
+    left: Expression<'a>,
+    sign: Sign,
+    right: Expression<'a>,
+}
+
+fn sign_of(op: Binary) -> Sign {
+    let (sign, rank, left, right) = match op {
+        Binary::Add => ('+', 2, 2, 3),
+        Binary::Sub => ('-', 2, 2, 3),
+        Binary::Mul => ('*', 3, 3, 4),
+        Binary::And => ('&', 1, 4, 4),
+        Binary::Equal => ('=', 1, 2, 2),
+        Binary::Below => ('<', 1, 2, 2),
+    };
+    Sign {
+        sign,
+        rank,
+        left,
+        right,
+    }
+}
+
+impl<'a> Expression<'a> {
+    // An expression as deep as there is room for it, and no less than 1.
+    pub fn fitting(program: Program<'a>, e: u16, room: usize) -> Expression<'a> {
+        let to_depth = |depth| Expression {
+            program,
+            e,
+            depth,
+            rank: 0,
+        };
+        let depth = (2..=DEPTH)
+            .rev()
+            .find(|depth| length_of(to_depth(*depth)) < room);
+        to_depth(depth.unwrap_or(1))
+    }
+
+    // Its words, if the program has such an expression.
+    fn words(self) -> Option<Expr> {
+        self.program
+            .has_expr(self.e)
+            .then_some(self.program.expr(self.e))
+    }
+
+    // The op on its operands, if it has any.
+    fn binary(self) -> Option<Binary> {
+        match Op::try_from(self.words()?.op) {
+            Ok(Op::Binary(op)) => Some(op),
+            _ => None,
         }
-        depth -= 1;
     }
-    depth
+
+    fn operand(self, e: u16, rank: u16) -> Expression<'a>
+        requires { 0 < self.depth }
+        ensures { result.depth < self.entry.depth }
+    {
+        Expression {
+            program: self.program,
+            e,
+            depth: self.depth - 1,
+            rank,
+        }
+    }
+
+    // How it is written out, unless it is to stand there by its name, or has no operands.
+    fn step(self) -> Option<Step<'a>>
+        ensures { IfSome result (λ step.
+            (step.left.depth < self.entry.depth) × (step.right.depth < self.entry.depth)) }
+    {
+        let sign = sign_of(self.binary()?);
+        if self.depth == 0 {
+            return None;
+        }
+        let Expr { p, q, .. } = self.program.expr(self.e);
+        Some(Step {
+            left: self.operand(p, sign.left),
+            sign,
+            right: self.operand(q, sign.right),
+        })
+    }
+
+    // Notes the expressions that stand there by their names.
+    pub fn note_named(self, named: &mut [bool]) {
+        if let Some(step) = self.step() {
+            step.left.note_named(named);
+            step.right.note_named(named);
+        } else if self.binary().is_some() {
+            if let Some(is_named) = named.get_mut(usize::from(self.e)) {
+                *is_named = true;
+            }
+        }
+    }
+
+    // A number, a variable or a name.
+    fn put_atom<W: fmt::Write>(self, f: &mut fmt::Formatter<W>) -> fmt::Result {
+        let e = self.e;
+        let Some(Expr { op, p, .. }) = self.words() else {
+            return write!(f, "e{e}");
+        };
+        match Op::try_from(op) {
+            Ok(Op::Number) => write!(f, "{p}"),
+            Ok(Op::Variable) => write!(f, "v{p}"),
+            Ok(Op::Binary(_)) => write!(f, "e{e}"),
+            Err(UnknownOp(op)) => write!(f, "op {op}"),
+        }
+    }
+
+    fn put<W: fmt::Write>(self, f: &mut fmt::Formatter<W>) -> fmt::Result {
+        let Some(step) = self.step() else {
+            return self.put_atom(f);
+        };
+        let (open, close) = if step.sign.rank < self.rank {
+            ("(", ")")
+        } else {
+            ("", "")
+        };
+        f.write_str(open)?;
+        step.left.put(f)?;
+        write!(f, " {} ", step.sign.sign)?;
+        step.right.put(f)?;
+        f.write_str(close)
+    }
 }
 
-// An expression as deep as the line has room for it.
-pub fn put_expression(exprs: &[u16], e: u16, named: &mut [u8], line: Line) -> Line {
-    let depth = fitting_depth(exprs, e, line);
-    put_to_depth(exprs, e, depth, 0, named, line)
+impl fmt::Display for Expression<'_> {
+    fn fmt<W: fmt::Write>(&self, f: &mut fmt::Formatter<W>) -> fmt::Result {
+        self.put(f)
+    }
 }

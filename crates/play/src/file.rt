@@ -1,21 +1,18 @@
 // Reading a file whole, and writing a new one. The name of a file is text, as std has it.
-ghost use Rattle.std.specs.Prelude.{◌≤◌, length};
-
-use super::errors;
+use super::errors::{Fault, Limit};
+use std::alloc::Global;
 use std::fs::{File, OpenFile, OpenOptions};
 use std::io;
 use std::io::{Error, ErrorKind, Read, Write};
-use std::rt::{Files, Stderr};
+use std::rt::Files;
 use std::str::from_utf8;
 
-// What came of reading a file.
-#[derive(Drop)]
-pub enum Contents {
-    // So many bytes.
-    Bytes(usize),
-    // Nothing, and a line has said why.
-    Unread,
-}
+// The longest file.
+const BYTES: Limit = Limit {
+    thing: "file",
+    most: 131071,
+    of_what: "bytes",
+};
 
 fn path_of(name: &[u8]) -> io::Result<&str> {
     match from_utf8(name) {
@@ -24,35 +21,18 @@ fn path_of(name: &[u8]) -> io::Result<&str> {
     }
 }
 
-// Reads on until the buffer is full, the file ends or a read fails.
-fn read_on(file: &mut impl Read, text: &mut [u8]) -> usize
-    ensures { result ≤ length text.old }
-{
-    let mut done = 0;
-    while done < text.len() {
-        match file.read(&mut text[done..]) {
-            Ok(n) if 0 < n => done += n,
-            _ => break,
-        }
+// A file's bytes. What has been read before a read fails is taken for all.
+pub fn read(files: &impl Files, alloc: Global, name: &[u8]) -> Result<Vec<u8>, Fault> {
+    let file = File::open(files, path_of(name)?)?;
+    let mut contents = Vec::with_capacity(alloc, BYTES.most + 1)?;
+    let outcome = file.take(BYTES.most as u64 + 1).read_to_end(&mut contents);
+    if contents.is_empty() {
+        outcome?;
     }
-    done
-}
-
-fn read_named(files: &impl Files, name: &[u8], text: &mut [u8]) -> io::Result<usize> {
-    let mut file = File::open(files, path_of(name)?)?;
-    let n = file.read(text)?;
-    let more = read_on(&mut file, &mut text[n..]);
-    Ok(n + more)
-}
-
-pub fn read(files: &impl Files, err: Stderr, name: &[u8], text: &mut [u8]) -> Contents {
-    match read_named(files, name, text) {
-        Ok(n) => Contents::Bytes(n),
-        Err(error) => {
-            errors::unread(err, name, error);
-            Contents::Unread
-        }
+    if BYTES.most < contents.len() {
+        return Err(Fault::TooLong(BYTES));
     }
+    Ok(contents)
 }
 
 // Makes a file of this name and these bytes, or says why not. A file that is there already is kept as it is.

@@ -1,147 +1,116 @@
 // A line of output: it is put together piece by piece and then written out. What would come past its width is dropped.
-ghost use Rattle.std.specs.Prelude.{◌≤◌};
-
-use super::lists::{bytes_between, less};
+use std::alloc::{AllocError, Global};
 use std::fmt;
-use std::fmt::Write;
+use std::fmt::{Display, Write};
 use std::io::Print;
 use std::rt::Stdout;
 
-// The widest line, in characters.
+// The widest line, in bytes.
 pub const WIDTH: usize = 100;
 
-// The characters of a line, with a place for the byte that ends it, and how many there are.
-#[derive(Clone, Copy)]
+// The bytes of a line. It is no String: a text of the user's need not be UTF-8, and a line may be cut within a character.
+#[derive(Drop)]
 pub struct Line {
-    pub text: [u8; 101],
-    pub len: usize,
-}
-
-// How many digits a word has.
-pub fn digits_of(n: u16) -> usize
-    ensures { result ≤ 5 }
-{
-    match n {
-        0..=9 => 1,
-        10..=99 => 2,
-        100..=999 => 3,
-        1000..=9999 => 4,
-        _ => 5,
-    }
+    text: Vec<u8>,
 }
 
 // What is no character is read as a question mark.
 fn readable(byte: u8) -> u8 {
-    match byte {
-        0..=31 | 127 => b'?',
-        _ => byte,
-    }
+    if byte.is_ascii_control() { b'?' } else { byte }
 }
 
 impl Line {
-    pub fn new() -> Line {
+    pub fn new(alloc: Global) -> Line {
         Line {
-            text: [0; 101],
-            len: 0,
+            text: Vec::new(alloc),
         }
     }
 
-    pub fn byte(mut self, byte: u8) -> Line {
-        let at = self.len;
-        if at < WIDTH {
-            self.text[at] = byte;
-            self.len = at + 1;
-        }
-        self
+    // A line in the same memory.
+    pub fn another(&self) -> Line {
+        Line::new(*self.text.allocator())
     }
 
-    pub fn put(self, text: &[u8]) -> Line {
-        let mut line = self;
-        let mut i = 0;
-        while i < text.len() {
-            line = line.byte(text[i]);
-            i += 1;
-        }
-        line
+    pub fn as_bytes(&self) -> &[u8] {
+        self.text.as_slice()
+    }
+
+    // How many bytes there is room for.
+    pub fn room(&self) -> usize {
+        WIDTH.saturating_sub(self.text.len())
     }
 
     // A text of the user's.
-    pub fn readable(self, text: &[u8]) -> Line {
-        let mut line = self;
-        let mut i = 0;
-        while i < text.len() {
-            line = line.byte(readable(text[i]));
-            i += 1;
-        }
-        line
+    pub fn put_readable(&mut self, text: &[u8]) -> Result<(), AllocError> {
+        let room = self.room();
+        self.text
+            .extend(text.iter().take(room).map(|byte| readable(*byte)))
     }
 
     // Blanks up to a column.
-    pub fn pad_to(self, column: usize) -> Line {
-        let mut line = self;
-        let mut i = self.len;
-        while i < column {
-            line = line.byte(b' ');
-            i += 1;
-        }
-        line
+    pub fn pad_to(&mut self, column: usize) -> fmt::Result {
+        let blanks = column.saturating_sub(self.text.len());
+        write!(self, "{:blanks$}", "")
     }
 
-    pub fn number(self, n: usize) -> Line {
-        let mut line = self;
-        let _ = write!(line, "{n}");
-        line
-    }
-
-    pub fn word(self, word: u16) -> Line {
-        self.number(word as usize)
-    }
-
-    // A letter and a number: v0, c3, e12.
-    pub fn name(self, letter: u8, n: u16) -> Line {
-        self.byte(letter).word(n)
-    }
-
-    // A word that ends before a column.
-    pub fn word_to(self, end: usize, word: u16) -> Line {
-        self.pad_to(less(end, digits_of(word))).word(word)
-    }
-
-    // A name that ends before a column.
-    pub fn name_to(self, end: usize, letter: u8, n: u16) -> Line {
-        self.pad_to(less(end, 1 + digits_of(n))).name(letter, n)
-    }
-
-    fn ended(mut self) -> Line {
-        let at = self.len;
-        if at < WIDTH + 1 {
-            self.text[at] = b'\n';
-            self.len = at + 1;
-        }
-        self
-    }
-
-    // Writes the line to one of the two outputs, in one call. A line that cannot be written is let go.
-    pub fn write(self, to: &impl Print) {
-        let line = self.ended();
-        let text = line.text;
-        let _ = to.write_all(bytes_between(&text, 0, line.len));
-    }
-
-    pub fn end(self, out: Stdout) {
-        self.write(&out);
-    }
-}
-
-// What std formats is put together as the rest of a line is.
-impl fmt::Write for Line {
-    fn write_str(&mut self, text: &str) -> fmt::Result {
-        *self = self.put(text.as_bytes());
+    // Writes the line to one of the two outputs, in one call, and begins the next. A line that cannot be written is let go.
+    pub fn end(&mut self, to: &impl Print) -> Result<(), AllocError> {
+        self.text.push(b'\n')?;
+        let _ = to.write_all(self.as_bytes());
+        self.text.clear();
         Ok(())
     }
 }
 
-// A whole line.
-pub fn say(out: Stdout, text: &[u8]) {
-    Line::new().put(text).end(out);
+impl Write for Line {
+    fn write_str(&mut self, text: &str) -> fmt::Result {
+        let room = self.room().min(text.len());
+        self.text.extend_from_slice(&text.as_bytes()[..room])?;
+        Ok(())
+    }
+}
+
+// The length of a text.
+#[derive(Drop)]
+struct Length(usize);
+
+impl Write for Length {
+    fn write_str(&mut self, text: &str) -> fmt::Result {
+        self.0 = self.0.saturating_add(text.len());
+        Ok(())
+    }
+}
+
+// How many bytes a text has when it is written out.
+pub fn length_of(text: impl Display + Drop) -> usize {
+    let mut length = Length(0);
+    match write!(length, "{text}") {
+        Ok(()) => length.0,
+        Err(_) => usize::MAX,
+    }
+}
+
+// The output that lines go to, and the memory that they are put together in.
+#[derive(Clone, Copy)]
+pub struct Output {
+    pub to: Stdout,
+    pub alloc: Global,
+}
+
+impl Output {
+    pub fn line(self) -> Line {
+        Line::new(self.alloc)
+    }
+
+    pub fn end(self, line: &mut Line) -> Result<(), AllocError> {
+        line.end(&self.to)
+    }
+
+    // A whole line.
+    pub fn say(self, text: impl Display + Drop) -> Result<(), fmt::Error> {
+        let mut line = self.line();
+        write!(line, "{text}")?;
+        self.end(&mut line)?;
+        Ok(())
+    }
 }

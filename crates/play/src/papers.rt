@@ -1,62 +1,40 @@
 // The papers that come with the program: each is a text as a file has it, whose first line is its title. Kinds and ops
 // are numbers there (`program::kinds`, `program::ops`), and 65535 is the parent of node 0.
-use super::lists::fill;
 
-// How many papers there are. The first is played where none is asked for.
-pub const COUNT: u16 = 18;
+// Paper 1 is the first. It is played where none is asked for.
+static PAPERS: [&str; 18] = [
+    PRODUCER_AND_CONSUMER,
+    TWO_COUNTDOWNS,
+    SWAP,
+    FACTORIAL,
+    ONE_DELAY,
+    SWAP_WITH_WRONG_BOOK,
+    TWO_STORES,
+    LATE_SENDER,
+    TWO_INPUTS,
+    EMPTY_LOOP,
+    LOOPS_NEVER_ENTERED,
+    ENDLESS_DELAYS,
+    COUNTDOWN,
+    LOOP_RUNNING_EMPTY,
+    WRAPPING,
+    COUNTER_OF_12_BITS,
+    INPUT_OF_1_BIT,
+    VALUE_TOO_WIDE,
+];
 
-// Puts the text of a paper into a buffer, and answers its length.
-pub fn text_of(paper: u16, text: &mut [u8]) -> usize {
-    match paper {
-        1..=4 => put_larger(paper, text),
-        5..=9 => put_first_sample(paper, text),
-        10..=15 => put_later_sample(paper, text),
-        _ => put_width_sample(paper, text),
-    }
+// How many papers there are.
+pub fn count() -> u16 {
+    PAPERS.len() as u16
 }
 
-fn put_larger(paper: u16, text: &mut [u8]) -> usize {
-    match paper {
-        1 => producer_and_consumer(text),
-        2 => two_countdowns(text),
-        3 => swap(text),
-        _ => factorial(text),
-    }
+pub fn text_of(paper: u16) -> Option<&'static str> {
+    let place = usize::from(paper).checked_sub(1)?;
+    PAPERS.get(place).copied()
 }
 
-fn put_first_sample(paper: u16, text: &mut [u8]) -> usize {
-    match paper {
-        5 => one_delay(text),
-        6 => swap_with_wrong_book(text),
-        7 => two_stores(text),
-        8 => late_sender(text),
-        _ => two_inputs(text),
-    }
-}
-
-fn put_later_sample(paper: u16, text: &mut [u8]) -> usize {
-    match paper {
-        10 => empty_loop(text),
-        11 => loops_never_entered(text),
-        12 => endless_delays(text),
-        13 => countdown(text),
-        14 => loop_running_empty(text),
-        _ => wrapping(text),
-    }
-}
-
-fn put_width_sample(paper: u16, text: &mut [u8]) -> usize {
-    match paper {
-        16 => counter_of_12_bits(text),
-        17 => input_of_1_bit(text),
-        _ => value_too_wide(text),
-    }
-}
-
-fn producer_and_consumer(text: &mut [u8]) -> usize {
-    fill(
-        text,
-        b"# A producer sends 1, 4 and 9 over a channel, and a consumer adds them up
+const PRODUCER_AND_CONSUMER: &str =
+    "# A producer sends 1, 4 and 9 over a channel, and a consumer adds them up
 12 11 4 1
 1 0 0  0 3 0  7 0 1      # v0, 3, v0 < 3
 0 1 0  2 0 3  4 0 0      # 1, v0 + 1, v0 * v0
@@ -76,14 +54,9 @@ fn producer_and_consumer(text: &mut [u8]) -> usize {
 16 16 16 16
 0 0 0 0
 20
-",
-    )
-}
+";
 
-fn two_countdowns(text: &mut [u8]) -> usize {
-    fill(
-        text,
-        b"# Two threads count down, and the next statement waits for both
+const TWO_COUNTDOWNS: &str = "# Two threads count down, and the next statement waits for both
 5 9 3 0
 1 0 0  0 1 0  3 0 1      # v0, 1, v0 - 1
 1 1 0  3 3 1             # v1, v1 - 1
@@ -99,14 +72,9 @@ fn two_countdowns(text: &mut [u8]) -> usize {
 16 16 16
 3 2 0
 20
-",
-    )
-}
+";
 
-fn swap(text: &mut [u8]) -> usize {
-    fill(
-        text,
-        b"# Two assignments swap two variables
+const SWAP: &str = "# Two assignments swap two variables
 2 3 2 0
 1 0 0  1 1 0             # v0, v1
 2 65535 3 0 0
@@ -115,14 +83,9 @@ fn swap(text: &mut [u8]) -> usize {
 16 16
 3 7
 5
-",
-    )
-}
+";
 
-fn factorial(text: &mut [u8]) -> usize {
-    fill(
-        text,
-        b"# A factorial, with two assignments in a cycle
+const FACTORIAL: &str = "# A factorial, with two assignments in a cycle
 5 6 2 0
 1 0 0  1 1 0  0 1 0      # v0, v1, 1
 4 1 0  3 0 2             # v1 * v0, v0 - 1
@@ -135,26 +98,16 @@ fn factorial(text: &mut [u8]) -> usize {
 16 16
 5 0
 20
-",
-    )
-}
+";
 
-fn one_delay(text: &mut [u8]) -> usize {
-    fill(
-        text,
-        b"# One DLY
+const ONE_DELAY: &str = "# One DLY
 0 1 0 0
 8 65535 1 0 0
 5
 0
-",
-    )
-}
+";
 
-fn swap_with_wrong_book(text: &mut [u8]) -> usize {
-    fill(
-        text,
-        b"# The swap with the book 1,1, which is wrong
+const SWAP_WITH_WRONG_BOOK: &str = "# The swap with the book 1,1, which is wrong
 2 3 2 0
 1 0 0  1 1 0             # v0, v1
 2 65535 3 0 0
@@ -164,14 +117,9 @@ fn swap_with_wrong_book(text: &mut [u8]) -> usize {
 3 7
 5
 1 1
-",
-    )
-}
+";
 
-fn two_stores(text: &mut [u8]) -> usize {
-    fill(
-        text,
-        b"# Two assignments to one variable
+const TWO_STORES: &str = "# Two assignments to one variable
 1 3 1 0
 0 1 0
 2 65535 3 0 0
@@ -181,14 +129,9 @@ fn two_stores(text: &mut [u8]) -> usize {
 0
 5
 1 2
-",
-    )
-}
+";
 
-fn late_sender(text: &mut [u8]) -> usize {
-    fill(
-        text,
-        b"# An IN waits for an OUT
+const LATE_SENDER: &str = "# An IN waits for an OUT
 1 5 1 1
 0 5 0
 2 65535 5 0 0
@@ -199,14 +142,9 @@ fn late_sender(text: &mut [u8]) -> usize {
 16
 0
 5
-",
-    )
-}
+";
 
-fn two_inputs(text: &mut [u8]) -> usize {
-    fill(
-        text,
-        b"# Two IN on one channel
+const TWO_INPUTS: &str = "# Two IN on one channel
 0 3 2 1
 2 65535 3 0 0
 4 0 2 0 0
@@ -215,28 +153,18 @@ fn two_inputs(text: &mut [u8]) -> usize {
 0 0
 5
 1 2
-",
-    )
-}
+";
 
-fn empty_loop(text: &mut [u8]) -> usize {
-    fill(
-        text,
-        b"# A loop around a loop that is never entered
+const EMPTY_LOOP: &str = "# A loop around a loop that is never entered
 2 3 0 0
 0 1 0  0 0 0
 7 65535 3 0 0
 7 0 3 1 0
 8 1 3 0 0
 5
-",
-    )
-}
+";
 
-fn loops_never_entered(text: &mut [u8]) -> usize {
-    fill(
-        text,
-        b"# Two loops that are never entered
+const LOOPS_NEVER_ENTERED: &str = "# Two loops that are never entered
 1 5 0 0
 0 0 0
 2 65535 5 0 0
@@ -245,14 +173,9 @@ fn loops_never_entered(text: &mut [u8]) -> usize {
 7 0 5 0 0
 8 3 5 0 0
 5
-",
-    )
-}
+";
 
-fn endless_delays(text: &mut [u8]) -> usize {
-    fill(
-        text,
-        b"# Two DLY in a loop without end
+const ENDLESS_DELAYS: &str = "# Two DLY in a loop without end
 1 4 0 0
 0 1 0
 7 65535 4 0 0
@@ -260,14 +183,9 @@ fn endless_delays(text: &mut [u8]) -> usize {
 8 1 3 0 0
 8 1 4 0 0
 5
-",
-    )
-}
+";
 
-fn countdown(text: &mut [u8]) -> usize {
-    fill(
-        text,
-        b"# A countdown from 1
+const COUNTDOWN: &str = "# A countdown from 1
 3 2 1 0
 1 0 0  0 1 0  3 0 1      # v0, 1, v0 - 1
 7 65535 2 0 0
@@ -275,14 +193,9 @@ fn countdown(text: &mut [u8]) -> usize {
 16
 1
 5
-",
-    )
-}
+";
 
-fn loop_running_empty(text: &mut [u8]) -> usize {
-    fill(
-        text,
-        b"# A loop that runs empty after its first cycle
+const LOOP_RUNNING_EMPTY: &str = "# A loop that runs empty after its first cycle
 3 4 1 0
 0 1 0  1 0 0  0 0 0      # 1, v0, 0
 7 65535 4 0 0
@@ -292,14 +205,9 @@ fn loop_running_empty(text: &mut [u8]) -> usize {
 16
 1
 5
-",
-    )
-}
+";
 
-fn wrapping(text: &mut [u8]) -> usize {
-    fill(
-        text,
-        b"# 65535 + 1 and 0 - 1
+const WRAPPING: &str = "# 65535 + 1 and 0 - 1
 5 3 2 0
 0 65535 0  0 1 0  0 0 0  # 65535, 1, 0
 2 0 1  3 2 1             # 65535 + 1, 0 - 1
@@ -309,14 +217,9 @@ fn wrapping(text: &mut [u8]) -> usize {
 16 16
 7 7
 5
-",
-    )
-}
+";
 
-fn counter_of_12_bits(text: &mut [u8]) -> usize {
-    fill(
-        text,
-        b"# A counter of 12 bits passes 4095
+const COUNTER_OF_12_BITS: &str = "# A counter of 12 bits passes 4095
 3 2 1 0
 0 1 0  1 0 0  2 1 0      # 1, v0, v0 + 1
 7 65535 2 0 0
@@ -324,14 +227,9 @@ fn counter_of_12_bits(text: &mut [u8]) -> usize {
 12
 4093
 5
-",
-    )
-}
+";
 
-fn input_of_1_bit(text: &mut [u8]) -> usize {
-    fill(
-        text,
-        b"# An IN into a variable of 1 bit, beside an assignment of what is sent
+const INPUT_OF_1_BIT: &str = "# An IN into a variable of 1 bit, beside an assignment of what is sent
 3 4 2 1
 1 1 0  0 4 0  2 0 1      # v1, 4, v1 + 4
 2 65535 4 0 0
@@ -341,14 +239,9 @@ fn input_of_1_bit(text: &mut [u8]) -> usize {
 1 16
 0 3
 5
-",
-    )
-}
+";
 
-fn value_too_wide(text: &mut [u8]) -> usize {
-    fill(
-        text,
-        b"# A starting value that is too wide for 12 bits
+const VALUE_TOO_WIDE: &str = "# A starting value that is too wide for 12 bits
 3 2 1 0
 0 1 0  1 0 0  2 1 0      # 1, v0, v0 + 1
 7 65535 2 0 0
@@ -356,6 +249,4 @@ fn value_too_wide(text: &mut [u8]) -> usize {
 12
 4096
 5
-",
-    )
-}
+";

@@ -5,17 +5,25 @@ use mathlib.Core.Bool.{Bool, true, false, not, cond}
 use mathlib.Core.List.{List, [], ◌∷◌, ◌++◌}
 use Prim.Native.Nat.{ℕ}
 use lib.Dec.{eqb}
+use Rattle.std.specs.Prelude.{Result, Ok, Err, ⊤}
+use Rattle.std.specs.Result.{IsErr, IsErrAnd}
+use borrow.Author.Tests.{ne_eqb}
+use native.Mathlib.Omega.{arith}
 use Rattle.semantics.specs.Program.{Program}
 use Rattle.semantics.specs.Questions.{Question, ask, first_no}
 use Rattle.semantics.specs.Check.{check_questions, check_number, fault_item}
 use Rattle.semantics.specs.Widths.{values_in_range}
 use Rattle.semantics.specs.State.{State, lengths_ok}
 use Rattle.semantics.specs.Calls.{Answer, answer, root_walk, begin_answer}
+use Rattle.semantics.proofs.Lists.QuestionLaws.{after_check}
 use Rattle.semantics.proofs.Lists.FaultLaws.{no_item}
-use Rattle.program.specs.Answer.{CheckAnswer}
+use Rattle.program.specs.declared.refusal.Refusal.{Refusal}
+use Rattle.program.specs.declared.refusal.Refusal.TheVariants.{Loop}
+use Rattle.program.specs.Refusals.{question_number, fault_in}
+use Rattle.program.specs.Answer.{CheckAnswer, number_of, item_of}
+use Rattle.program.proofs.AnswerLaws.{check_item_lem, some_number}
 use Rattle.player.specs.Begin.{BeginAnswer}
 use Rattle.player.specs.Root.{WrittenUnlessLooped}
-use Rattle.player.proofs.RunAnswerLaws.{after_check, check_item_lem}
 
 module _ (P : Program) (s : State) where
   -- the questions of begin, and its answer when the first no has number q
@@ -50,10 +58,15 @@ module _ (P : Program) (s : State) where
       → BeginAnswer P s q item s.marks s.counts
   refused q e n = by_number q e (answer P q 0 s) (rw n)
 
-  pub answer_check : (number item : ℕ) → CheckAnswer P number item → eqb number 0 ≡ false
-      → BeginAnswer P s number item s.marks s.counts
-  answer_check number item c n =
-      refused number (after_check P later number c.right_number ∙ rw n) n (check_item_lem c)
+  -- `?` passes on what check refuses
+  pub answer_check : (r : Result ⊤ Refusal) (refusal : Refusal) → IsErr r × IsErrAnd r (λ x. x ≡ refusal)
+      → CheckAnswer P (question_number refusal) (fault_in refusal)
+      → BeginAnswer P s (number_of r) (item_of r) s.marks s.counts
+  answer_check (Ok a) refusal e c = absurd e.1
+  answer_check (Err x) refusal e c =
+      let q = question_number refusal in
+      let n = ne_eqb q 0 (λ z. let some = some_number refusal in omega arith) in
+      rw e.1 (refused q (after_check P later q c.right_number ∙ rw n) n (check_item_lem c))
 
   module _ (ok : 0 ≡ check_number P) where
     pub answer_5 : lengths_ok P s ≡ false → BeginAnswer P s 5 0 s.marks s.counts
@@ -63,17 +76,18 @@ module _ (P : Program) (s : State) where
         → BeginAnswer P s 6 0 s.marks s.counts
     answer_6 lengths n = refused 6 (after_check P later 0 ok ∙ rw (lengths, n)) refl (no_item P 6 refl)
 
-    module _ (lengths : lengths_ok P s ≡ true) (in_range : values_in_range P.widths s.values ≡ true) {looped : Bool}
-        {marks counts : List ℕ}
-        (written : WrittenUnlessLooped (root_walk P s.values) s.marks s.counts looped marks counts) where
-      pub answer_10 : looped ≡ true → BeginAnswer P s 10 0 marks counts
-      answer_10 e =
-          let n : first_no questions ≡ 10 =
-          after_check P later 0 ok ∙ rw (lengths, in_range, ← written.right_looped, e) in
-          rw (written.right_marks, written.right_counts, e) (refused 10 n refl (no_item P 10 refl))
-
-      pub answer_0 : looped ≡ false → BeginAnswer P s 0 0 marks counts
-      answer_0 e =
-          let n : first_no questions ≡ 0 =
-          after_check P later 0 ok ∙ rw (lengths, in_range, ← written.right_looped, e) in
-          rw (written.right_marks, written.right_counts, e) (by_number 0 n (answer_at 0) refl (no_item P 0 refl))
+    -- question 10, and where it is answered yes, marks and counts of entering node 0
+    pub answer_written : lengths_ok P s ≡ true → values_in_range P.widths s.values ≡ true
+        → {r : Result ⊤ Refusal} {marks counts : List ℕ}
+        → WrittenUnlessLooped (root_walk P s.values) s.marks s.counts r marks counts
+        → BeginAnswer P s (number_of r) (item_of r) marks counts
+    answer_written lengths in_range written =
+        rw (written.right_answer, written.right_marks, written.right_counts) (pick (root_walk P s.values).looped refl)
+      where
+        pick : (b : Bool) → (root_walk P s.values).looped ≡ b
+            → let r : Result ⊤ Refusal = cond b (Err Loop) (Ok tt) in
+            BeginAnswer P s (number_of r) (item_of r) (cond b s.marks (root_walk P s.values).marks)
+            (cond b s.counts (root_walk P s.values).counts)
+        pick true e = refused 10 (after_check P later 0 ok ∙ rw (lengths, in_range, e)) refl (no_item P 10 refl)
+        pick false e =
+            by_number 0 (after_check P later 0 ok ∙ rw (lengths, in_range, e)) (answer_at 0) refl (no_item P 0 refl)

@@ -11,7 +11,9 @@ use lib.Dec.{eqb, leb}
 use lib.ListN.{length, get_or, drop}
 use lib.Seq.{drop-cons}
 use Rattle.semantics.specs.Numbers.{below, up_from, filter}
-use Rattle.semantics.specs.Program.{Program, expr_count, node_count, kind_of, a_at, b_at}
+use Rattle.semantics.specs.Program.{Program, Kind, Leaf, expr_count, node_count, kind_at, a_at, b_at, leaf_test}
+use Rattle.semantics.specs.Program.Kind.{SEQ, PAR, IF, WHL, LEAF, UNKNOWN}
+use Rattle.semantics.specs.Program.Leaf.{ASG, IN, OUT, DLY}
 use Rattle.semantics.specs.Check.{references_ok}
 use Rattle.semantics.specs.State.{marked, mark_count, active}
 use Rattle.semantics.specs.Completion.{is_asg, is_in, is_out}
@@ -23,7 +25,7 @@ use Rattle.semantics.proofs.Lists.ActiveLaws.{marked_below}
 use Rattle.semantics.proofs.Run.CrossOut.{mark_count-cons}
 use Rattle.semantics.proofs.Run.EntryCounts.{entry_count}
 use Rattle.semantics.proofs.Lists.LeafKinds.{asg_names, in_names, out_names}
-use Rattle.player.specs.Work.{Formulas}
+use Rattle.player.specs.declared.claims.Claims.{Claims}
 use Rattle.player.specs.Channels.{CycleOf, PairedEntry, has_kind}
 
 -- ---- what passes a test
@@ -62,6 +64,33 @@ pub fold_next : {A : Type 0} (step : A → ℕ → A) (a : A) (entries : List �
     → foldl step a (drop k entries) ≡ foldl step (step a (get_or entries k 0)) (drop (k + 1) entries)
 fold_next step a entries k l = rw (add-one k, drop-cons entries k 0 l)
 
+-- ---- kinds of leaves
+
+test_fails : (f : Leaf → Bool) (k : Kind) → ((l : Leaf) → k ≡ LEAF l → f l ≡ false) → leaf_test f k ≡ false
+test_fails f (LEAF l) h = h l refl
+test_fails f SEQ h = refl
+test_fails f PAR h = refl
+test_fails f IF h = refl
+test_fails f WHL h = refl
+test_fails f UNKNOWN h = refl
+
+-- a kind that is not that of a leaf fails its test
+module _ (k : Kind) where
+  pub no_asg : (k ≡ LEAF ASG → ⊥) → leaf_test is_asg k ≡ false
+  no_asg n = test_fails is_asg k
+      (λ l. elim l as (λ l. k ≡ LEAF l → is_asg l ≡ false)
+      [ ASG ↦ λ e. absurd (n e) | IN ↦ λ e. refl | OUT ↦ λ e. refl | DLY ↦ λ e. refl ])
+
+  pub no_in : (k ≡ LEAF IN → ⊥) → leaf_test is_in k ≡ false
+  no_in n = test_fails is_in k
+      (λ l. elim l as (λ l. k ≡ LEAF l → is_in l ≡ false)
+      [ ASG ↦ λ e. refl | IN ↦ λ e. absurd (n e) | OUT ↦ λ e. refl | DLY ↦ λ e. refl ])
+
+  pub no_out : (k ≡ LEAF OUT → ⊥) → leaf_test is_out k ≡ false
+  no_out n = test_fails is_out k
+      (λ l. elim l as (λ l. k ≡ LEAF l → is_out l ≡ false)
+      [ ASG ↦ λ e. refl | IN ↦ λ e. refl | OUT ↦ λ e. absurd (n e) | DLY ↦ λ e. refl ])
+
 -- ---- the names of a node
 
 module _ {P : Program} (ok : Accepted P) (i : ℕ) (l : i < node_count P.nodes) where
@@ -79,22 +108,29 @@ module _ {P : Program} (ok : Accepted P) (i : ℕ) (l : i < node_count P.nodes) 
   node_out_channel k = (out_names P word (a_at P.nodes i) (b_at P.nodes i) names k).0
 
   -- the variable of an ASG or IN
-  node_asg_variable : has_kind P.nodes is_asg i ≡ true → a_at P.nodes i < P.variables
+  pub node_asg_variable : has_kind P.nodes is_asg i ≡ true → a_at P.nodes i < P.variables
   node_asg_variable k = (asg_names P word (a_at P.nodes i) (b_at P.nodes i) names k).0
 
-  node_in_variable : has_kind P.nodes is_in i ≡ true → b_at P.nodes i < P.variables
+  pub node_in_variable : has_kind P.nodes is_in i ≡ true → b_at P.nodes i < P.variables
   node_in_variable k = (in_names P word (a_at P.nodes i) (b_at P.nodes i) names k).1
 
   -- the expression of an ASG or OUT
-  node_asg_expression : has_kind P.nodes is_asg i ≡ true → b_at P.nodes i < expr_count P.exprs
+  pub node_asg_expression : has_kind P.nodes is_asg i ≡ true → b_at P.nodes i < expr_count P.exprs
   node_asg_expression k = (asg_names P word (a_at P.nodes i) (b_at P.nodes i) names k).1
 
-  node_out_expression : has_kind P.nodes is_out i ≡ true → b_at P.nodes i < expr_count P.exprs
+  pub node_out_expression : has_kind P.nodes is_out i ≡ true → b_at P.nodes i < expr_count P.exprs
   node_out_expression k = (out_names P word (a_at P.nodes i) (b_at P.nodes i) names k).1
+
+  -- a slot has the number of each channel
+  pub node_in_fits : has_kind P.nodes is_in i ≡ true → a_at P.nodes i < 256
+  node_in_fits k = lt_of_lt_of_le (node_in_channel k) ok.sizes.channels_fit
+
+  pub node_out_fits : has_kind P.nodes is_out i ≡ true → a_at P.nodes i < 256
+  node_out_fits k = lt_of_lt_of_le (node_out_channel k) ok.sizes.channels_fit
 
 -- ---- the entries of a cycle
 
-module _ {nodes entries : List ℕ} (x : CycleOf nodes entries) where
+module _ {P : Program} {entries : List ℕ} (x : CycleOf P entries) where
   pub entry_marked : (k : ℕ) → k < length entries → marked x.marks (get_or entries k 0) ≡ true
   entry_marked = ((active_means x.marks entries).0 x.entries_active).each_marked
 
@@ -112,52 +148,43 @@ module _ {nodes entries : List ℕ} (x : CycleOf nodes entries) where
   single_entries f = ap (λ (n : ℕ). leb n 1) (sym (entry_count x.marks entries x.entries_active f))
 
   module _ (i : ℕ) (m : marked x.marks i ≡ true) where
-    pub marked_node : i < node_count nodes
+    pub marked_node : i < node_count P.nodes
     marked_node = subst (λ (n : ℕ). i < n) x.marks_fit (marked_below x.marks i m)
 
-    pub in_channel : has_kind nodes is_in i ≡ true → a_at nodes i < x.channels
+    pub in_channel : has_kind P.nodes is_in i ≡ true → a_at P.nodes i < P.channels
     in_channel k = node_in_channel x.accepted i marked_node k
 
-    pub out_channel : has_kind nodes is_out i ≡ true → a_at nodes i < x.channels
+    pub out_channel : has_kind P.nodes is_out i ≡ true → a_at P.nodes i < P.channels
     out_channel k = node_out_channel x.accepted i marked_node k
 
-    pub asg_variable : has_kind nodes is_asg i ≡ true → a_at nodes i < x.variables
+    pub asg_variable : has_kind P.nodes is_asg i ≡ true → a_at P.nodes i < P.variables
     asg_variable k = node_asg_variable x.accepted i marked_node k
 
-    pub in_variable : has_kind nodes is_in i ≡ true → b_at nodes i < x.variables
+    pub in_variable : has_kind P.nodes is_in i ≡ true → b_at P.nodes i < P.variables
     in_variable k = node_in_variable x.accepted i marked_node k
 
-    pub asg_expression : has_kind nodes is_asg i ≡ true → b_at nodes i < expr_count x.exprs
+    pub asg_expression : has_kind P.nodes is_asg i ≡ true → b_at P.nodes i < expr_count P.exprs
     asg_expression k = node_asg_expression x.accepted i marked_node k
 
-    pub out_expression : has_kind nodes is_out i ≡ true → b_at nodes i < expr_count x.exprs
+    pub out_expression : has_kind P.nodes is_out i ≡ true → b_at P.nodes i < expr_count P.exprs
     out_expression k = node_out_expression x.accepted i marked_node k
 
   -- there are at most 256 of each
-  pub channel_fits : {c : ℕ} → c < x.channels → c < 256
+  pub channel_fits : {c : ℕ} → c < P.channels → c < 256
   channel_fits l = lt_of_lt_of_le l x.accepted.sizes.channels_fit
 
-  pub variable_fits : {v : ℕ} → v < x.variables → v < 256
+  pub variable_fits : {v : ℕ} → v < P.variables → v < 256
   variable_fits l = lt_of_lt_of_le l x.accepted.sizes.variables_fit
-
-  pub cycle_formulas : (values : List ℕ) → length values ≡ x.variables → Formulas x.exprs values
-  cycle_formulas values fit = record {
-    exprs_fit = x.accepted.sizes.exprs_fit;
-    values_fit = rw fit x.accepted.sizes.variables_fit;
-    ok = λ e l. rw fit (x.accepted.exprs_ok e l);
-  }
 
 -- ---- a marked node
 
-module _ {nodes claims : List ℕ} {i : ℕ} (x : PairedEntry nodes claims i) where
-  pub entry_node : i < node_count nodes
+module _ {P : Program} {claims : Claims} {i : ℕ} (x : PairedEntry P claims i) where
+  pub entry_node : i < node_count P.nodes
   entry_node = marked_node x.cycle i x.is_marked
 
   -- the channel of an IN, and of an OUT
-  pub in_fits : get_or nodes (5 * i) 0 ≡ 4 → a_at nodes i < 256
-  unfolding kind_of
-  in_fits w = channel_fits x.cycle (in_channel x.cycle i x.is_marked (rw w))
+  pub in_fits : kind_at P.nodes i ≡ LEAF IN → a_at P.nodes i < 256
+  in_fits k = channel_fits x.cycle (in_channel x.cycle i x.is_marked (ap (leaf_test is_in) k))
 
-  pub out_fits : get_or nodes (5 * i) 0 ≡ 5 → a_at nodes i < 256
-  unfolding kind_of
-  out_fits w = channel_fits x.cycle (out_channel x.cycle i x.is_marked (rw w))
+  pub out_fits : kind_at P.nodes i ≡ LEAF OUT → a_at P.nodes i < 256
+  out_fits k = channel_fits x.cycle (out_channel x.cycle i x.is_marked (ap (leaf_test is_out) k))

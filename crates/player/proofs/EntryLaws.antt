@@ -140,9 +140,18 @@ crossed_none = record { within = zero-le; same_length = refl; right = refl; rest
 
 module _ {entries start : List ℕ} {k : ℕ} {marks : List ℕ} (h : CrossedOut entries start k marks) where
   -- all are crossed out
-  pub crossed-all : length entries ≤ k → k ≡ crossable start entries
+  pub crossed_whole : length entries ≤ k → CrossedOut entries start (length entries) marks
+  crossed_whole l =
+      let within = h.within in
+      let e : k ≡ length entries = omega arith in
+      subst (λ (n : ℕ). CrossedOut entries start n marks) e h
+
+  pub crossed-all : length entries ≤ k → length entries ≡ crossable start entries
   unfolding crossable
-  crossed-all l = sym (h.rest ∙ rw (drop_of_length-le entries {i = k} l) (omega arith))
+  crossed-all l =
+      let within = h.within in
+      let e : length entries ≡ k = omega arith in
+      e ∙ sym (h.rest ∙ rw (drop_of_length-le entries {i = k} l) (omega arith))
 
   module _ (l : k < length entries) where
     -- the next has no mark, or none any more

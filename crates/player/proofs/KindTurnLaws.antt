@@ -1,148 +1,107 @@
 -- One turn of a climb by the kind of node h, whose child i was left.
-use mathlib.Core.Path.{◌≡◌, refl, sym, ap, ◌∙◌}
-use mathlib.Core.Bool.{Bool, true, false, cond}
-use mathlib.Core.Logic.{inl, inr}
-use mathlib.Core.List.{List}
-use mathlib.Core.Option.{some}
-use Prim.Native.Nat.{ℕ, suc, ◌≤◌, ◌<◌}
-use native.Mathlib.Omega.{arith}
-use lib.Dec.{eqb}
-use lib.ListN.{get_or, set, length-set}
-use borrow.Author.Tests.{lt-ltb, le-ltb}
-use Rattle.semantics.specs.Program.{node_count, end_at, a_at}
+use Rattle.std.proofs.Common.{◌≡◌, ℕ, suc, ◌≤◌, ◌<◌, List, Bool, true, false, Some, sym, ap, ◌∙◌, arith, length-set, lt-ltb, le-ltb}
+use Rattle.std.proofs.Math.Option.{some}
+use Rattle.semantics.specs.Program.{Program, node_count, kind_at, end_at, a_at}
+use Rattle.semantics.specs.Program.Kind.{SEQ, PAR, IF, WHL}
 use Rattle.semantics.specs.Parents.{parent}
 use Rattle.semantics.specs.Walk.{Walk, Entered, loop_if_finished, then_leave, enter, leave}
 use Rattle.semantics.specs.Facts.{statement_at}
-use Rattle.semantics.proofs.Lists.KindNumbers.{kind_seq, kind_par, kind_if, kind_whl}
 use Rattle.semantics.proofs.Lists.ParentLaws.{is_parent}
 use Rattle.semantics.proofs.Tree.ChildLaws.{whl_only_child}
 use Rattle.semantics.proofs.Walks.LeaveLaws.{leave_seq, leave_if, leave_whl_true, leave_whl_false, leave_par}
-use Rattle.player.specs.Work.{KeptFrom}
-use Rattle.player.specs.Walks.{walk, walk_in, entered, holds_in, kind_word, lowered, passed, Walking, Enters, Turned}
-use Rattle.player.proofs.WorkLaws.{kept_refl, kept_trans, kept_weaken, met_kept}
-use Rattle.player.proofs.WalkingLaws.{walking_counted}
+use Rattle.player.specs.declared.memo.Memo.{Memo}
+use Rattle.player.specs.declared.outcome.Outcome.{Outcome}
+use Rattle.player.specs.declared.outcome.Outcome.TheVariants.{Finished, Stays}
+use Rattle.player.specs.declared.work.Work.{Work}
+use Rattle.player.specs.Memo.{Known, SameMoment}
+use Rattle.player.specs.Walks.{walk_in, entered, holds_in, holds_now, if_finished, lowered, outcome_at, passed_by, Walking, Enters, Turned}
+use Rattle.player.proofs.WalkingLaws.{kept_refl, kept_trans, kept_worked, kept_passed, walking_counted, walking_worked, walking_passed}
 use Rattle.player.proofs.OutcomeLaws.{finished_at_zero-entered}
-use Rattle.player.proofs.ReachedLaws.{node_passed}
-use Rattle.player.proofs.TurnLaws.{parent_kind, turn_to_parent, turn_to_next, turn_if_finished}
+use Rattle.player.proofs.TurnLaws.{turn_to_parent, turn_to_next, turn_over, turn_if_finished}
 
--- `marks`, `counts` and `work` are the lists before the turn.
-module _ {exprs nodes values marks counts work : List ℕ} (x : Walking exprs nodes values marks counts work) (i h : ℕ)
-    (l : i < node_count nodes) (p : parent nodes i ≡ some h) where
+-- `marks`, `counts` and `work` are what stands before the turn.
+module _ {P : Program} {marks counts : List ℕ} {work : Work} (x : Walking P marks counts work) (i h : ℕ)
+    (l : i < node_count P.nodes) (p : parent P.nodes i ≡ some h) where
   -- the last child of a SEQ
-  pub seq_last : kind_word nodes h ≡ 1 → end_at nodes h ≤ end_at nodes i
-      → Turned exprs nodes values work i (walk_in marks counts work) h marks counts work
+  pub seq_last : kind_at P.nodes h ≡ SEQ → end_at P.nodes h ≤ end_at P.nodes i
+      → Turned P work i (walk_in marks counts work) (Some h) marks counts work
   seq_last k n =
-      turn_to_parent x (kept_refl 2307 work) i h l p
-      (leave_seq nodes x.walkable.nodes_ok (holds_in exprs values) i h _ l p (kind_seq _ k)
-      ∙ rw (le-ltb (end_at nodes i) (end_at nodes h) n))
+      turn_to_parent x kept_refl i h l p
+      (leave_seq P.nodes x.accepted.nodes_ok (holds_now P work.memo) i h _ l p k
+      ∙ rw (le-ltb (end_at P.nodes i) (end_at P.nodes h) n))
 
   -- a child of a SEQ before another, which was entered
-  module _ {o : ℕ} {marks₁ counts₁ work₁ : List ℕ} (k : kind_word nodes h ≡ 1) (n : end_at nodes i < end_at nodes h)
-      (e : Enters exprs nodes values work
-      (enter (holds_in exprs values) (statement_at nodes (end_at nodes i)) (walk_in marks counts work)) o marks₁
-      counts₁
-      work₁) where
-    left_next : leave (holds_in exprs values) nodes i (walk_in marks counts work)
-        ≡ then_leave (entered o (walk_in marks₁ counts₁ work₁)) (leave (holds_in exprs values) nodes (end_at nodes i))
+  module _ {o : Outcome} {marks₁ counts₁ : List ℕ} {work₁ : Work} (k : kind_at P.nodes h ≡ SEQ)
+      (n : end_at P.nodes i < end_at P.nodes h)
+      (e : Enters P work
+      (enter (holds_now P work.memo) (statement_at P.nodes (end_at P.nodes i)) (walk_in marks counts work)) o marks₁
+      counts₁ work₁) where
+    left_next : leave (holds_now P work.memo) P.nodes i (walk_in marks counts work)
+        ≡ then_leave (entered o (walk_in marks₁ counts₁ work₁)) (leave (holds_now P work.memo) P.nodes (end_at P.nodes i))
     left_next =
-        leave_seq nodes x.walkable.nodes_ok (holds_in exprs values) i h _ l p (kind_seq _ k)
-        ∙ rw (lt-ltb (end_at nodes i) (end_at nodes h) n)
-        (ap (λ (r : Entered). then_leave r (leave (holds_in exprs values) nodes (end_at nodes i))) e.right)
+        leave_seq P.nodes x.accepted.nodes_ok (holds_now P work.memo) i h _ l p k
+        ∙ rw (lt-ltb (end_at P.nodes i) (end_at P.nodes h) n)
+        (ap (λ (r : Entered). then_leave r (leave (holds_now P work.memo) P.nodes (end_at P.nodes i))) e.right)
 
-    pub seq_next : Turned exprs nodes values work i (walk_in marks counts work)
-        (cond (eqb o 0) (end_at nodes i) 0) marks₁
-        counts₁ work₁
+    pub seq_next : Turned P work i (walk_in marks counts work) (if_finished o (end_at P.nodes i)) marks₁ counts₁ work₁
     seq_next =
-        turn_if_finished e.walking e.kept i h l p o (end_at nodes i) left_next
+        turn_if_finished i (end_at P.nodes i) o e.walking e.kept left_next
         (turn_to_next e.walking e.kept i h l p n)
 
   -- a child of an IF
-  pub if_child : kind_word nodes h ≡ 6
-      → Turned exprs nodes values work i (walk_in marks counts work) h marks counts work
+  pub if_child : kind_at P.nodes h ≡ IF
+      → Turned P work i (walk_in marks counts work) (Some h) marks counts work
   if_child k =
-      turn_to_parent x (kept_refl 2307 work) i h l p
-      (leave_if nodes x.walkable.nodes_ok (holds_in exprs values) i h _ l p (kind_if _ k))
+      turn_to_parent x kept_refl i h l p
+      (leave_if P.nodes x.accepted.nodes_ok (holds_now P work.memo) i h _ l p k)
 
   -- a child of a PAR
-  pub par_child : kind_word nodes h ≡ 2
-      → Turned exprs nodes values work i (walk_in marks counts work)
-      (cond (eqb (cond (eqb (get_or (lowered counts h) h 0) 0) 0 1) 0) h 0) marks (lowered counts h) work
+  pub par_child : kind_at P.nodes h ≡ PAR
+      → Turned P work i (walk_in marks counts work) (if_finished (outcome_at (lowered counts h) h) h) marks
+      (lowered counts h) work
   par_child k =
       let y = walking_counted x (lowered counts h) (length-set counts h _) in
-      let left : Entered → Walk = λ r. then_leave r (leave (holds_in exprs values) nodes h) in
-      turn_if_finished y (kept_refl 2307 work) i h l p (cond (eqb (get_or (lowered counts h) h 0) 0) 0 1) h
-      (leave_par nodes x.walkable.nodes_ok (holds_in exprs values) i h _ l p (kind_par _ k)
+      let left : Entered → Walk = λ r. then_leave r (leave (holds_now P work.memo) P.nodes h) in
+      turn_if_finished i h (outcome_at (lowered counts h) h) y kept_refl
+      (leave_par P.nodes x.accepted.nodes_ok (holds_now P work.memo) i h _ l p k
       ∙ ap left (finished_at_zero-entered h (walk_in marks (lowered counts h) work)))
-      (turn_to_parent y (kept_refl 2307 work) i h l p)
-
-  -- no other kind is a parent
-  pub other_child : (1 ≤ kind_word nodes h → kind_word nodes h ≤ 2 → ⊥)
-      → (6 ≤ kind_word nodes h → kind_word nodes h ≤ 7 → ⊥)
-      → Turned exprs nodes values work i (walk_in marks counts work) 0 marks counts work
-  other_child a b =
-      elim (parent_kind nodes x.walkable.nodes_ok i l h p) [
-        | inl k ↦ absurd (a k.0 k.1)
-        | inr k ↦ absurd (b k.0 k.1)
-      ]
+      (turn_to_parent y kept_refl i h l p)
 
   -- a child of a WHL: its condition was worked, which leaves the walk as it was
-  module _ {work₁ : List ℕ} {answer : Bool} (k : kind_word nodes h ≡ 7)
-      (asked : answer ≡ holds_in exprs values (a_at nodes h)) (y : Walking exprs nodes values marks counts work₁)
-      (kept : KeptFrom 2304 work work₁) where
-    same_walk : walk_in marks counts work ≡ walk_in marks counts work₁
-    same_walk = ap (walk marks counts) (sym (met_kept 2304 work work₁ (omega arith) kept))
-
-    walk_kept : KeptFrom 2307 work work₁
-    walk_kept = kept_weaken 2304 2307 work work₁ (omega arith) kept
-
+  module _ {memo : Memo} {answer : Bool} (k : kind_at P.nodes h ≡ WHL)
+      (asked : answer ≡ holds_now P work.memo (a_at P.nodes h)) (known : Known P.exprs memo)
+      (same : SameMoment work.memo memo) where
     pub whl_false : answer ≡ false
-        → Turned exprs nodes values work i (walk_in marks counts work) h marks counts work₁
+        → Turned P work i (walk_in marks counts work) (Some h) marks counts (record work { memo = memo })
     whl_false f =
-        turn_to_parent y walk_kept i h l p
-        (leave_whl_false nodes x.walkable.nodes_ok (holds_in exprs values) i h _ l p (kind_whl _ k) (sym asked ∙ f)
-        ∙ ap (leave (holds_in exprs values) nodes h) same_walk)
+        turn_to_parent (walking_worked x known) (kept_worked same) i h l p
+        (leave_whl_false P.nodes x.accepted.nodes_ok (holds_now P work.memo) i h _ l p k (sym asked ∙ f))
 
     -- its child was entered again, and a zero-time loop is noted where it finished
-    module _ {o : ℕ} {marks₂ counts₂ work₂ : List ℕ} (t : answer ≡ true)
-        (e : Enters exprs nodes values work₁
-        (enter (holds_in exprs values) (statement_at nodes (suc h)) (walk_in marks counts work₁)) o marks₂ counts₂
-        work₂)
-      where
-        abbrev work₃ : List ℕ
-        work₃ = cond (eqb o 0) (set work₂ 2306 1) work₂
+    abbrev Again : Outcome → List ℕ → List ℕ → Work → Type 0
+    Again o marks₂ counts₂ work₂ =
+        Enters P (record work { memo = memo })
+        (enter (holds_now P memo) (statement_at P.nodes (suc h)) (walk_in marks counts work)) o marks₂ counts₂ work₂
 
-        again : Enters exprs nodes values work₁
-            (passed true (enter (holds_in exprs values) (statement_at nodes (suc h)) (walk_in marks counts work₁))) o
-            marks₂
-            counts₂ work₃
-        again =
-            node_passed true (suc h) (record {
-              right = refl;
-              walking = y;
-              kept =
-                  kept_refl 2307 work₁;
-            }) o marks₂ counts₂
-            work₂ e
+    left_again : {o : Outcome} {marks₂ counts₂ : List ℕ} {work₂ : Work} → answer ≡ true → Again o marks₂ counts₂ work₂
+        → leave (holds_now P work.memo) P.nodes i (walk_in marks counts work)
+        ≡ then_leave (loop_if_finished (entered o (walk_in marks₂ counts₂ work₂))) (leave (holds_now P work.memo) P.nodes h)
+    left_again t e =
+        let b = (is_parent P.nodes i h p).lower in
+        let only = whl_only_child P.nodes x.accepted.nodes_ok i h (omega arith) k p in
+        let left : Entered → Walk =
+        λ r. then_leave (loop_if_finished r) (leave (holds_now P work.memo) P.nodes h) in
+        let child : List ℕ → ℕ → Entered =
+        λ values j. enter (holds_in P.exprs values) (statement_at P.nodes j) (walk_in marks counts work) in
+        leave_whl_true P.nodes x.accepted.nodes_ok (holds_now P work.memo) i h _ l p k (sym asked ∙ t)
+        ∙ ap (λ (j : ℕ). left (child work.memo.variables j)) only
+        ∙ ap (λ (values : List ℕ). left (child values (suc h))) (sym same.variables)
+        ∙ ap left e.right
 
-        again_kept : KeptFrom 2307 work work₃
-        again_kept = kept_trans 2307 work work₁ work₃ walk_kept again.kept
-
-        left_again : leave (holds_in exprs values) nodes i (walk_in marks counts work)
-            ≡ then_leave (entered o (walk_in marks₂ counts₂ work₃)) (leave (holds_in exprs values) nodes h)
-        unfolding passed
-        left_again =
-            let b = (is_parent nodes i h p).lower in
-            let only = whl_only_child nodes x.walkable.nodes_ok i h (omega arith) (kind_whl _ k) p in
-            let child : Walk → ℕ → Entered =
-            λ v j. loop_if_finished (enter (holds_in exprs values) (statement_at nodes j) v) in
-            let left : Entered → Walk = λ r. then_leave r (leave (holds_in exprs values) nodes h) in
-            leave_whl_true nodes x.walkable.nodes_ok (holds_in exprs values) i h _ l p (kind_whl _ k) (sym asked ∙ t)
-            ∙ ap (λ (j : ℕ). left (child (walk_in marks counts work) j)) only
-            ∙ ap (λ (v : Walk). left (child v (suc h))) same_walk ∙ ap left again.right
-
-        pub whl_true : Turned exprs nodes values work i (walk_in marks counts work)
-            (cond (eqb o 0) h 0) marks₂ counts₂
-            work₃
-        whl_true =
-            turn_if_finished again.walking again_kept i h l p o h left_again
-            (turn_to_parent again.walking again_kept i h l p)
+    pub whl_true : (o : Outcome) {marks₂ counts₂ : List ℕ} {work₂ : Work} → answer ≡ true
+        → Again o marks₂ counts₂ work₂
+        → Turned P work i (walk_in marks counts work) (if_finished o h) marks₂ counts₂ (passed_by true o work₂)
+    whl_true Finished t e =
+        turn_to_parent (walking_passed e.walking true Finished)
+        (kept_trans (kept_worked same) (kept_trans e.kept (kept_passed true Finished))) i h l p (left_again t e)
+    whl_true Stays t e = turn_over i e.walking (kept_trans (kept_worked same) e.kept) (left_again t e)

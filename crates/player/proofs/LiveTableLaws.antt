@@ -1,12 +1,13 @@
--- The table of live children: when the nodes from i on are added, its number at a node is that of the node's live children
--- from i on. So when the pass comes to a node, its number there is that of all its live children.
+-- The table of live children: when the nodes from i on are added, its number at a node is that of the node's live
+-- children from i on. So when the pass comes to a node, its number there is that of all its live children.
 use mathlib.Core.Path.{◌≡◌, refl, sym, ap, ◌∙◌, subst}
-use mathlib.Core.Bool.{Bool, true, false, cond, ◌&&◌, ◌||◌, and-true, and-false}
+use mathlib.Core.Bool.{Bool, true, false, cond, ◌&&◌, ◌||◌, and-true, and-false, true≢false}
 use mathlib.Core.List.{List}
 use mathlib.Core.Option.{some}
 use mathlib.Core.Logic.{inl, inr}
-use Prim.Native.Nat.{ℕ, suc, ◌+◌, ◌-◌, ◌≤◌, ◌<◌}
+use Prim.Native.Nat.{ℕ, suc, ◌+◌, ◌≤◌, ◌<◌}
 use native.Mathlib.Nat.{le_refl}
+use Rattle.std.proofs.Common.{◌-◌}
 use native.Mathlib.Numerals.{add-one}
 use native.Mathlib.Omega.{arith}
 use lib.Dec.{eqb, ltb}
@@ -14,14 +15,16 @@ use lib.ListN.{length, get_or, set, replicate, length-set, length-replicate, get
 use lib.Seq.{get_or-set_same, get_or-set_other}
 use borrow.Author.Tests.{eqb-true, eqb-false, lt-ltb, le-ltb}
 use Rattle.semantics.specs.Numbers.{below, every}
-use Rattle.semantics.specs.Program.{node_count, kind_at, parent_at}
+use Rattle.semantics.specs.Program.{Program, node_count, kind_at, parent_at}
 use Rattle.semantics.specs.Parents.{parent, is_child}
 use Rattle.semantics.specs.State.{marked, holds_mark, live_children, control_formed}
 use Rattle.semantics.specs.Facts.{locally_ok, node_well_formed}
-use Rattle.semantics.proofs.Lists.Logic.{true_or_false, lt_or_le}
+use Rattle.semantics.proofs.Lists.Logic.{true_or_false, lt_or_le, refuted}
+use Rattle.semantics.proofs.Lists.NumberLaws.{every_below, all-below}
 use Rattle.semantics.proofs.Lists.ParentLaws.{is_parent}
 use Rattle.semantics.proofs.Tree.NodeLaws.{parent_word, root_parent}
-use Rattle.semantics.proofs.Tree.LiveChildren.{live_from_last, live_from_most, live_from_step, live_from_own, holds_mark-own}
+use Rattle.semantics.proofs.Tree.LiveChildren.{live_from_last, live_from_most, live_from_step, live_from_own}
+use Rattle.semantics.proofs.Tree.LiveChildren.{holds_mark-own}
 use Rattle.semantics.proofs.Tree.WellFormedLocally.{control_formed-locally}
 use Rattle.player.specs.WellFormed.{ListsFit, added_to_parent, ParentFits, LiveTable}
 
@@ -50,14 +53,14 @@ added-length nodes i holds live = pick (holds && ltb 0 i)
     pick false = refl
 
 -- the table begins with zeros
-pub table_start : {nodes marks counts : List ℕ} → ListsFit nodes marks counts
-    → LiveTable nodes marks (node_count nodes) (replicate 1024 0)
-table_start {nodes} {marks} lists =
+pub table_start : {P : Program} {marks counts : List ℕ} → ListsFit P marks counts
+    → LiveTable P.nodes marks (node_count P.nodes) (replicate 1024 0)
+table_start {P} {marks} lists =
     record {
       size = length-replicate {A = ℕ} 1024 0;
       entries = λ h l.
-          let fits = lists.nodes_fit in
-          get_or-replicate {A = ℕ} 1024 h 0 0 (omega arith) ∙ sym (live_from_last nodes marks h);
+          let fits = lists.accepted.sizes.nodes_fit in
+          get_or-replicate {A = ℕ} 1024 h 0 0 (omega arith) ∙ sym (live_from_last P.nodes marks h);
     }
 
 -- where i nodes are left, a turn of a pass takes node i - 1: the nodes after it are those from i on
@@ -65,55 +68,56 @@ pub turn : {i : ℕ} → 0 < i → i ≡ suc (i - 1)
 turn left = omega arith
 
 -- ---- node i, when the nodes after it are in the table
-module _ {nodes marks counts : List ℕ} {i : ℕ} {live : List ℕ} (lists : ListsFit nodes marks counts)
-    (inside : i < node_count nodes) (table : LiveTable nodes marks (suc i) live) where
-  pub own_live : get_or live i 0 ≡ live_children nodes marks i
-  own_live = table.entries i inside ∙ live_from_own nodes marks i inside
+module _ {P : Program} {marks counts : List ℕ} {i : ℕ} {live : List ℕ} (lists : ListsFit P marks counts)
+    (inside : i < node_count P.nodes) (table : LiveTable P.nodes marks (suc i) live) where
+  pub own_live : get_or live i 0 ≡ live_children P.nodes marks i
+  own_live = table.entries i inside ∙ live_from_own P.nodes marks i inside
 
-  is_parent_word : 0 < i → parent nodes i ≡ some (parent_at nodes i)
-  is_parent_word z = parent_word nodes lists.nodes_ok i z inside
+  is_parent_word : 0 < i → parent P.nodes i ≡ some (parent_at P.nodes i)
+  is_parent_word z = parent_word P.nodes lists.accepted.nodes_ok i z inside
 
-  parent_inside : 0 < i → parent_at nodes i < node_count nodes
+  parent_inside : 0 < i → parent_at P.nodes i < node_count P.nodes
   parent_inside z =
-      let u = (is_parent nodes i (parent_at nodes i) (is_parent_word z)).lower in
+      let u = (is_parent P.nodes i (parent_at P.nodes i) (is_parent_word z)).lower in
       omega arith
 
-  pub parent_fits : ParentFits nodes i live
+  pub parent_fits : ParentFits P.nodes i live
   parent_fits =
       record {
-        inside = λ z. omega (arith, parent_inside z, lists.nodes_fit, table.size);
+        within = inside;
+        inside = λ z. omega (arith, parent_inside z, lists.accepted.sizes.nodes_fit, table.size);
         room = λ z.
-            let n = live_from_most nodes marks (suc i) (parent_at nodes i) in
-            omega (arith, table.entries (parent_at nodes i) (parent_inside z), lists.nodes_fit);
+            let n = live_from_most P.nodes marks (suc i) (parent_at P.nodes i) in
+            omega (arith, table.entries (parent_at P.nodes i) (parent_inside z), lists.accepted.sizes.nodes_fit);
       }
 
   -- the parent of node i has one more, where node i holds a mark
   added_at : (h : ℕ) (holds : Bool)
-      → get_or (added_to_parent nodes i holds live) h 0
-      ≡ cond (is_child nodes h i && holds) (suc (get_or live h 0)) (get_or live h 0)
-  added_at h false = rw (and-false (is_child nodes h i))
+      → get_or (added_to_parent P.nodes i holds live) h 0
+      ≡ cond (is_child P.nodes h i && holds) (suc (get_or live h 0)) (get_or live h 0)
+  added_at h false = rw (and-false (is_child P.nodes h i))
   added_at h true =
-      rw (and-true (is_child nodes h i))
+      rw (and-true (is_child P.nodes h i))
       (elim (lt_or_le 0 i) [
-        | inl z ↦ rw (lt-ltb 0 i z, is_parent_word z) (one_more live (parent_at nodes i) h (parent_fits.inside z))
+        | inl z ↦ rw (lt-ltb 0 i z, is_parent_word z) (one_more live (parent_at P.nodes i) h (parent_fits.inside z))
         | inr z ↦
             let q : i ≡ 0 = omega arith in
-            rw (le-ltb 0 i z, ap (parent nodes) q ∙ root_parent nodes)
+            rw (le-ltb 0 i z, ap (parent P.nodes) q ∙ root_parent P.nodes)
       ])
 
-  pub table_step : LiveTable nodes marks i (added_to_parent nodes i (marked marks i || ltb 0 (get_or live i 0)) live)
+  pub table_step : LiveTable P.nodes marks i (added_to_parent P.nodes i (marked marks i || ltb 0 (get_or live i 0)) live)
   table_step =
       let old = table.entries in
       record {
-        size = added-length nodes i (marked marks i || ltb 0 (get_or live i 0)) live ∙ table.size;
+        size = added-length P.nodes i (marked marks i || ltb 0 (get_or live i 0)) live ∙ table.size;
         entries = λ h l.
             added_at h (marked marks i || ltb 0 (get_or live i 0))
-            ∙ (λ n. cond (is_child nodes h i && holds n) (suc (old h l n)) (old h l n))
-            ∙ sym (live_from_step nodes marks i h inside);
+            ∙ (λ n. cond (is_child P.nodes h i && holds n) (suc (old h l n)) (old h l n))
+            ∙ sym (live_from_step P.nodes marks i h inside);
       }
     where
-      holds : marked marks i || ltb 0 (get_or live i 0) ≡ holds_mark nodes marks i
-      holds = rw own_live (sym (holds_mark-own nodes marks lists.nodes_ok lists.marks_fit i inside))
+      holds : marked marks i || ltb 0 (get_or live i 0) ≡ holds_mark P.nodes marks i
+      holds = rw own_live (sym (holds_mark-own P.nodes marks lists.accepted.nodes_ok lists.marks_fit i inside))
 
 -- ---- the pass has asked the nodes from i on and added them to the table
 pub record Passed (nodes marks counts : List ℕ) (i : ℕ) (live : List ℕ) : Type 0 where
@@ -121,38 +125,47 @@ pub record Passed (nodes marks counts : List ℕ) (i : ℕ) (live : List ℕ) : 
   pub table : LiveTable nodes marks i live
   pub right : (j : ℕ) → i ≤ j → j < node_count nodes → locally_ok nodes marks counts j ≡ true
 
-pub pass_start : {nodes marks counts live : List ℕ} → ListsFit nodes marks counts
-    → LiveTable nodes marks (node_count nodes) live → Passed nodes marks counts (length marks) live
-pass_start {nodes} lists table =
-    rw lists.marks_fit
-    (record { within = le_refl (node_count nodes); table = table; right = λ j v f. absurd (omega arith) })
+module _ {P : Program} {marks counts : List ℕ} (lists : ListsFit P marks counts) where
+  pub pass_start : Passed P.nodes marks counts (length marks) (replicate 1024 0)
+  pass_start =
+      rw lists.marks_fit
+      (record { within = le_refl (node_count P.nodes); table = table_start lists; right = λ j v f. absurd (omega arith) })
 
-module _ {nodes marks counts : List ℕ} {i : ℕ} {live : List ℕ} (lists : ListsFit nodes marks counts)
-    (passed : Passed nodes marks counts (suc i) live) where
-  -- what the code asks of node i is what question 6 asks of it
-  pub asks_right : node_well_formed (kind_at nodes i) (get_or marks i 0) (get_or counts i 0) (get_or live i 0)
-      ≡ locally_ok nodes marks counts i
-  asks_right =
-      ap (node_well_formed (kind_at nodes i) (get_or marks i 0) (get_or counts i 0))
-      (own_live lists passed.within passed.table)
+  module _ {i : ℕ} {live : List ℕ} (passed : Passed P.nodes marks counts (suc i) live) where
+    -- what the code asks of node i is what question 6 asks of it
+    pub asks_right : node_well_formed (kind_at P.nodes i) (get_or marks i 0) (get_or counts i 0) (get_or live i 0)
+        ≡ locally_ok P.nodes marks counts i
+    asks_right =
+        ap (node_well_formed (kind_at P.nodes i) (get_or marks i 0) (get_or counts i 0))
+        (own_live lists passed.within passed.table)
 
-  pub pass_fits : ParentFits nodes i live
-  pass_fits = parent_fits lists passed.within passed.table
+    pub pass_fits : ParentFits P.nodes i live
+    pass_fits = parent_fits lists passed.within passed.table
 
-  pub pass_step : locally_ok nodes marks counts i ≡ true
-      → Passed nodes marks counts i (added_to_parent nodes i (marked marks i || ltb 0 (get_or live i 0)) live)
-  pass_step right =
-      let l = passed.within in
-      record {
-        within = omega arith;
-        table = table_step lists passed.within passed.table;
-        right = λ j v f. elim (lt_or_le i j) [
-          | inl w ↦ passed.right j w f
-          | inr w ↦ let e : i ≡ j = omega arith in subst (λ (k : ℕ). locally_ok nodes marks counts k ≡ true) e right
-        ];
-      }
+    pub pass_step : locally_ok P.nodes marks counts i ≡ true
+        → Passed P.nodes marks counts i (added_to_parent P.nodes i (marked marks i || ltb 0 (get_or live i 0)) live)
+    pass_step right =
+        let l = passed.within in
+        record {
+          within = omega arith;
+          table = table_step lists passed.within passed.table;
+          right = λ j v f. elim (lt_or_le i j) [
+            | inl w ↦ passed.right j w f
+            | inr w ↦
+                let e : i ≡ j = omega arith in subst (λ (k : ℕ). locally_ok P.nodes marks counts k ≡ true) e right
+          ];
+        }
 
--- what question 6 asks of marks and counts
-pub answer_right : {nodes marks counts : List ℕ} → ListsFit nodes marks counts
-    → every (locally_ok nodes marks counts) (below (node_count nodes)) ≡ control_formed nodes marks counts
-answer_right lists = sym (control_formed-locally _ _ _ lists.nodes_ok lists.marks_fit)
+  -- what question 6 asks of marks and counts, where the pass has come to the first node
+  pub all_asked : {live : List ℕ} → Passed P.nodes marks counts 0 live → control_formed P.nodes marks counts ≡ true
+  all_asked passed =
+      control_formed-locally P.nodes marks counts lists.accepted.nodes_ok lists.marks_fit
+      ∙ all-below (locally_ok P.nodes marks counts) (node_count P.nodes) (λ j l. passed.right j (omega arith) l)
+
+  -- and where a node is not right
+  pub not_formed : (i : ℕ) → i < node_count P.nodes → locally_ok P.nodes marks counts i ≡ false
+      → control_formed P.nodes marks counts ≡ false
+  not_formed i l wrong =
+      control_formed-locally P.nodes marks counts lists.accepted.nodes_ok lists.marks_fit
+      ∙ refuted (every (locally_ok P.nodes marks counts) (below (node_count P.nodes)))
+      (λ h. true≢false (sym (every_below (locally_ok P.nodes marks counts) (node_count P.nodes) h i l) ∙ wrong))

@@ -1,23 +1,12 @@
--- The number of marks: counted from the left, and when a node is marked.
-use mathlib.Core.Path.{◌≡◌, sym, ap, ◌∙◌}
-use mathlib.Core.Bool.{Bool, true, false, cond}
-use mathlib.Core.List.{List, [], ◌∷◌}
-use Prim.Native.Nat.{ℕ, zero, suc, ◌+◌, ◌≤◌, ◌<◌}
-use native.Mathlib.Nat.{zero-add, le_of_suc-le-suc}
-use native.Mathlib.Omega.{arith}
-use lib.Dec.{eqb}
-use lib.ListN.{length, get_or, set}
+-- The number of marks, and when a node is marked.
+use Rattle.std.proofs.Common.{◌≡◌, ℕ, zero, suc, ◌<◌, ◌≤◌, Bool, true, false, cond, eqb, List, [], ◌∷◌, length, get_or, set, refl, sym, ap, ◌∙◌, arith}
+use native.Mathlib.Nat.{le_of_suc-le-suc}
 use lib.Seq.{set-get_or}
-use Rattle.semantics.specs.Numbers.{up_from, filter}
+use Rattle.std.specs.List.{filter}
+use Rattle.semantics.specs.Numbers.{up_from, filter as rule_filter}
 use Rattle.semantics.specs.State.{marked, mark_count}
-use Rattle.semantics.proofs.Lists.NumberLaws.{count, count_add, count_suc, count_most}
+use Rattle.semantics.proofs.Lists.NumberLaws.{count_most}
 use Rattle.semantics.proofs.Run.CrossOut.{mark_count-cons}
-
-pub count_more : (f : ℕ → Bool) (k : ℕ) → count f (k + 1) 0 ≡ count f k 0 + cond (f k) 1 0
-unfolding up_from filter
-count_more f k =
-    count_add f k 1 0
-    ∙ ap (λ (n : ℕ). count f k 0 + n) (count_suc f 0 (0 + k) ∙ ap (λ (n : ℕ). cond (f n) 1 0) (zero-add k))
 
 pub mark_count-most : (marks : List ℕ) → mark_count marks ≤ length marks
 mark_count-most marks = count_most (marked marks) (length marks) 0
@@ -38,3 +27,15 @@ mark_count-mark (m ∷ ms) (suc i) l h =
 -- a node that is marked already
 pub marked_twice : (marks : List ℕ) (i : ℕ) → get_or marks i 0 ≡ 1 → set marks i 1 ≡ marks
 marked_twice marks i h = ap (λ (m : ℕ). set marks i m) (sym h) ∙ set-get_or marks i 0
+
+-- counted by their values
+pub mark_count-filter : (marks : List ℕ) → length (filter (λ m. eqb m 1) marks) ≡ mark_count marks
+unfolding up_from rule_filter
+mark_count-filter [] = refl
+mark_count-filter (m ∷ ms) = pick (eqb m 1) (mark_count-filter ms) ∙ sym (mark_count-cons m ms)
+  where
+    pick : (b : Bool) → length (filter (λ x. eqb x 1) ms) ≡ mark_count ms
+        → length (cond b (m ∷ filter (λ x. eqb x 1) ms) (filter (λ x. eqb x 1) ms))
+        ≡ cond b (suc (mark_count ms)) (mark_count ms)
+    pick true e = ap suc e
+    pick false e = e

@@ -9,9 +9,11 @@ use Rattle.semantics.specs.Program.{Program}
 use Rattle.semantics.specs.State.{State}
 use Rattle.semantics.specs.Calls.{Answer, run_answer}
 use Rattle.program.specs.Answer.{CheckAnswer}
+use Rattle.program.specs.Word.{number_in, item_in}
+use Rattle.program.proofs.AnswerLaws.{word_of_parts}
 use Rattle.player.specs.Begin.{BeginAnswer}
 use Rattle.player.specs.Run.{RunAnswer}
-use Rattle.player.specs.Word.{number_in, item_in, item_of_run_in, worked_in}
+use Rattle.player.specs.Word.{item_of_run_in, worked_in}
 
 -- two results that keep a promise are equal
 abbrev pub OneResult : {R : Type 0} → (R → Type 0) → Type 0
@@ -69,10 +71,6 @@ rules_answer g = λ i. record {
 }
 
 -- a word is made of its parts
-word_of_parts : (word : ℕ) {number item : ℕ} → number_in word ≡ number → item_in word ≡ item
-    → word ≡ number + 65536 * item
-word_of_parts word n i = omega arith
-
 word_of_run : (word : ℕ) {number item worked : ℕ} → number_in word ≡ number → item_of_run_in word ≡ item
     → worked_in word ≡ worked → word ≡ number + 65536 * (item + 65536 * worked)
 word_of_run word n i w =

@@ -1,143 +1,113 @@
--- The rank of a slot, read at three places of the claims, and what one claim changes: its own slot, and no other.
-use mathlib.Core.Path.{◌≡◌, refl, sym, ap, ◌∙◌}
+-- The rank of a slot, and what one claim changes: its own slot, and no other.
+use mathlib.Core.Path.{◌≡◌, refl, sym, ap, ◌∙◌, subst}
 use mathlib.Core.Bool.{Bool, true, false, cond, not}
 use mathlib.Core.List.{List}
-use mathlib.Core.Logic.{◌≢◌, ◌⊎◌, inl, inr}
-use Prim.Native.Nat.{ℕ, suc, ◌+◌, ◌≤◌, ◌<◌}
+use Prim.Native.Nat.{ℕ, suc, ◌≤◌, ◌<◌}
+use native.Mathlib.Nat.{le_refl}
 use native.Mathlib.Omega.{arith}
 use lib.Dec.{eqb, eqb-suc-zero}
 use lib.ListN.{length, get_or, set, length-set}
 use lib.Seq.{get_or-set_same, get_or-set_other}
 use borrow.Author.Tests.{eqb-true, eqb-false, eq-eqb, ne_eqb}
-use Rattle.player.specs.Claims.{rank_in, Fresh, Claim, Claimed}
+use Rattle.player.specs.declared.claims.Slot.{Slot}
+use Rattle.player.specs.declared.claims.Slots.{Slots}
+use Rattle.player.specs.Claims.{slot_at, rank_in, UpTo, Unclaimed, Claim, Claimed}
 
 -- ---- a rank
 
+abbrev rank : ℕ → Slot → ℕ
+rank stamp x = cond (eqb x.stamp stamp) (suc x.node) 0
+
 -- a slot is free whose stamp is not that of the cycle
-pub rank_free : (claims : List ℕ) (part slot : ℕ)
-    → eqb (rank_in claims part slot) 0 ≡ not (eqb (get_or claims (part + slot) 0) (get_or claims 3584 0))
-rank_free claims part slot = pick (eqb (get_or claims (part + slot) 0) (get_or claims 3584 0))
+pub rank_free : (s : Slots) (stamp slot : ℕ)
+    → eqb (rank_in s stamp slot) 0 ≡ not (eqb (slot_at s slot).stamp stamp)
+rank_free s stamp slot = pick (eqb (slot_at s slot).stamp stamp)
   where
-    pick : (b : Bool) → eqb (cond b (suc (get_or claims (768 + part + slot) 0)) 0) 0 ≡ not b
-    pick true = eqb-suc-zero (get_or claims (768 + part + slot) 0)
+    pick : (b : Bool) → eqb (cond b (suc (slot_at s slot).node) 0) 0 ≡ not b
+    pick true = eqb-suc-zero (slot_at s slot).node
     pick false = refl
 
-pub rank_none : (claims : List ℕ) (part slot : ℕ) → get_or claims (part + slot) 0 < get_or claims 3584 0
-    → rank_in claims part slot ≡ 0
-rank_none claims part slot l = rw (ne_eqb (get_or claims (part + slot) 0) (get_or claims 3584 0) (λ e. omega arith))
-
--- a slot with the stamp of the cycle has the rank of the node beside it
-rank_some : (claims : List ℕ) (part slot : ℕ) → get_or claims (part + slot) 0 ≡ get_or claims 3584 0
-    → rank_in claims part slot ≡ suc (get_or claims (768 + part + slot) 0)
-rank_some claims part slot e = rw (eq-eqb (get_or claims (part + slot) 0) (get_or claims 3584 0) e)
+pub rank_none : (s : Slots) (stamp slot : ℕ) → (slot_at s slot).stamp < stamp → rank_in s stamp slot ≡ 0
+rank_none s stamp slot l = rw (ne_eqb (slot_at s slot).stamp stamp (λ e. omega arith))
 
 -- the node of a rank
-pub rank_node : (claims : List ℕ) (part slot : ℕ) {i : ℕ} → rank_in claims part slot ≡ suc i
-    → get_or claims (768 + part + slot) 0 ≡ i
-rank_node claims part slot {i} = pick (eqb (get_or claims (part + slot) 0) (get_or claims 3584 0))
+pub rank_node : (s : Slots) (stamp slot : ℕ) {i : ℕ} → rank_in s stamp slot ≡ suc i → (slot_at s slot).node ≡ i
+rank_node s stamp slot {i} = pick (eqb (slot_at s slot).stamp stamp)
   where
-    pick : (b : Bool) → cond b (suc (get_or claims (768 + part + slot) 0)) 0 ≡ suc i
-        → get_or claims (768 + part + slot) 0 ≡ i
+    pick : (b : Bool) → cond b (suc (slot_at s slot).node) 0 ≡ suc i → (slot_at s slot).node ≡ i
     pick true e = omega arith
     pick false e = absurd (omega arith)
 
-pub rank_kept : (before after : List ℕ) (part slot : ℕ) → get_or after (part + slot) 0 ≡ get_or before (part + slot) 0
-    → get_or after (768 + part + slot) 0 ≡ get_or before (768 + part + slot) 0
-    → get_or after 3584 0 ≡ get_or before 3584 0
-    → rank_in after part slot ≡ rank_in before part slot
-rank_kept before after part slot a b c = λ i. cond (eqb (a i) (c i)) (suc (b i)) 0
+pub unclaimed_rank : {s : Slots} {stamp : ℕ} (slot : ℕ) → Unclaimed s stamp → slot < 256 → rank_in s stamp slot ≡ 0
+unclaimed_rank {s} {stamp} slot u l = rank_none s stamp slot (u.stamps slot l)
 
-pub fresh_rank : {claims : List ℕ} (part slot : ℕ) → Fresh claims → part + slot < 768 → rank_in claims part slot ≡ 0
-fresh_rank {claims} part slot f l = rank_none claims part slot (f.stamps (part + slot) l)
+pub unclaimed_old : {s : Slots} {stamp : ℕ} → Unclaimed s stamp → UpTo s stamp
+unclaimed_old u = record { size = u.size; stamps = λ j l. omega (arith, u.stamps j l) }
 
 -- ---- one claim
 
-module _ (claims : List ℕ) (part slot i : ℕ) where
-  -- what `claim` leaves where the slot has the stamp of the cycle, and where not
-  pub claim_refused : get_or claims (part + slot) 0 ≡ get_or claims 3584 0 → Claim claims claims part slot i false
-  claim_refused e = record {
-    size = refl;
-    was_free = sym (rank_free claims part slot ∙ rw (eq-eqb _ _ e));
-    is_claimed = λ r. absurd (let z : ◌≡◌ {A = ℕ} 0 1 = cc in omega arith);
-    stamped = e;
-    rest = λ j a b. refl;
-  }
+abbrev stamped : ℕ → ℕ → Slot
+stamped stamp i = record { stamp = stamp; node = i }
 
-  pub claim_made : length claims ≡ 3586 → part ≤ 512 → slot < 256
-      → get_or claims (part + slot) 0 ≢ get_or claims 3584 0
-      → Claim claims (set (set claims (part + slot) (get_or claims 3584 0)) (768 + part + slot) i) part slot i true
-  claim_made size p s n = record {
-    size = length-set once (768 + part + slot) i ∙ size_once;
-    was_free = sym (rank_free claims part slot ∙ rw (ne_eqb _ _ n));
-    is_claimed = λ r. rank_some twice part slot (here ∙ sym stays) ∙ ap suc there;
-    stamped = here;
-    rest = others;
-  }
+-- a slot in a list of them
+abbrev at : List Slot → ℕ → Slot
+at xs j = get_or xs j (stamped 0 0)
+
+set_read : (xs : List Slot) (slot j : ℕ) (x : Slot) → slot < length xs
+    → at (set xs slot x) j ≡ cond (eqb slot j) x (at xs j)
+set_read xs slot j x l = pick (eqb slot j) refl
+  where
+    pick : (b : Bool) → eqb slot j ≡ b → at (set xs slot x) j ≡ cond b x (at xs j)
+    pick true e =
+        ap (at (set xs slot x)) (sym (eqb-true slot j e)) ∙ get_or-set_same xs slot x (stamped 0 0) l
+    pick false e =
+        get_or-set_other xs slot j x (stamped 0 0) (λ q. eqb-false slot j e (sym q))
+
+module _ {before after : Slots} {stamp slot i : ℕ} (size : length before.slots ≡ 256) (s : slot < 256) where
+  -- a claim of a free slot writes it, and no other
+  pub claim_read : Claim before after stamp slot i true → (j : ℕ)
+      → slot_at after j ≡ cond (eqb slot j) (stamped stamp i) (slot_at before j)
+  claim_read c j =
+      ap (λ (xs : List Slot). at xs j) c.written ∙ set_read before.slots slot j (stamped stamp i) (omega arith)
+
+  pub claim_size : {free : Bool} → Claim before after stamp slot i free → length after.slots ≡ 256
+  claim_size {free} c = pick free c.written
     where
-      stamp : ℕ
-      stamp = get_or claims 3584 0
+      pick : (b : Bool) → after.slots ≡ cond b (set before.slots slot (stamped stamp i)) before.slots
+          → length after.slots ≡ 256
+      pick true e = ap length e ∙ length-set before.slots slot (stamped stamp i) ∙ size
+      pick false e = ap length e ∙ size
 
-      once : List ℕ
-      once = set claims (part + slot) stamp
-
-      twice : List ℕ
-      twice = set once (768 + part + slot) i
-
-      size_once : length once ≡ length claims
-      size_once = length-set claims (part + slot) stamp
-
-      others : (j : ℕ) → j ≢ part + slot → j ≢ 768 + part + slot → get_or twice j 0 ≡ get_or claims j 0
-      others j a b =
-          get_or-set_other once (768 + part + slot) j i 0 b ∙ get_or-set_other claims (part + slot) j stamp 0 a
-
-      here : get_or twice (part + slot) 0 ≡ stamp
-      here =
-          get_or-set_other once (768 + part + slot) (part + slot) i 0 (λ e. omega arith)
-          ∙ get_or-set_same claims (part + slot) stamp 0 (omega arith)
-
-      there : get_or twice (768 + part + slot) 0 ≡ i
-      there = get_or-set_same once (768 + part + slot) i 0 (omega (arith, size_once))
-
-      stays : get_or twice 3584 0 ≡ stamp
-      stays = others 3584 (λ e. omega arith) (λ e. omega arith)
-
-module _ {before after : List ℕ} {part slot i : ℕ} {free : Bool} (c : Claim before after part slot i free)
-    (p : part ≤ 512) (s : slot < 256) where
-  -- the stamp of the cycle stays
-  pub claim_stamp : get_or after 3584 0 ≡ get_or before 3584 0
-  claim_stamp = c.rest 3584 (λ e. omega arith) (λ e. omega arith)
-
-  -- a stamp stays, or becomes that of the cycle
-  pub claim_stamps : (j : ℕ) → j < 768 → (get_or after j 0 ≡ get_or before j 0)
-      ⊎ (get_or after j 0 ≡ get_or before 3584 0)
-  claim_stamps j l = pick (eqb j (part + slot)) refl
+  -- no stamp is above that of the cycle
+  pub claim_old : {free : Bool} → Claim before after stamp slot i free → UpTo before stamp → UpTo after stamp
+  claim_old {free} c u = record { size = claim_size c; stamps = λ j l. pick free c j l }
     where
-      pick : (b : Bool) → eqb j (part + slot) ≡ b
-          → (get_or after j 0 ≡ get_or before j 0) ⊎ (get_or after j 0 ≡ get_or before 3584 0)
-      pick true e = inr (ap (λ (n : ℕ). get_or after n 0) (eqb-true j (part + slot) e) ∙ c.stamped)
-      pick false e = inl (c.rest j (eqb-false j (part + slot) e) (λ q. omega arith))
-
-  -- no other slot changes its rank
-  pub claim_others : (part' slot' : ℕ) → part' + slot' < 768 → part' + slot' ≢ part + slot
-      → rank_in after part' slot' ≡ rank_in before part' slot'
-  claim_others part' slot' l n =
-      rank_kept before after part' slot' (c.rest (part' + slot') n (λ e. omega arith))
-      (c.rest (768 + part' + slot') (λ e. omega arith) (λ e. n (omega arith))) claim_stamp
+      pick : (b : Bool) → Claim before after stamp slot i b → (j : ℕ) → j < 256 → (slot_at after j).stamp ≤ stamp
+      pick true c j l =
+          subst (λ (x : Slot). x.stamp ≤ stamp) (sym (claim_read c j)) (which (eqb slot j))
+        where
+          which : (b : Bool) → (cond b (stamped stamp i) (slot_at before j)).stamp ≤ stamp
+          which true = le_refl stamp
+          which false = u.stamps j l
+      pick false c j l = subst (λ (xs : List Slot). (at xs j).stamp ≤ stamp) (sym c.written) (u.stamps j l)
 
 -- ---- what a node has claimed
 
-module _ (uses : ℕ → Bool) (key : ℕ → ℕ) (part : ℕ) (before after : List ℕ) (i : ℕ) where
+module _ (uses : ℕ → Bool) (key : ℕ → ℕ) (before after : Slots) (stamp i : ℕ) where
   -- a node that wants a slot, which was free
-  pub claimed_key : {free : Bool} → Claim before after part (key i) i free → free ≡ true → part ≤ 512 → key i < 256
-      → uses i ≡ true → Claimed uses key part before after i
-  claimed_key c f p s u slot l = rw u (pick (eqb (key i) slot) refl)
+  pub claimed_key : {free : Bool} → length before.slots ≡ 256 → Claim before after stamp (key i) i free → free ≡ true
+      → key i < 256 → uses i ≡ true → Claimed uses key before after stamp i
+  claimed_key {free} size c f s u slot l =
+      rw u (ap (rank stamp) (claim_read size s made slot) ∙ pick (eqb (key i) slot))
     where
-      pick : (b : Bool) → eqb (key i) slot ≡ b → rank_in after part slot ≡ cond b (suc i) (rank_in before part slot)
-      pick true e = ap (rank_in after part) (sym (eqb-true (key i) slot e)) ∙ c.is_claimed f
-      pick false e = claim_others c p s part slot (omega arith) (λ q. eqb-false (key i) slot e (omega arith))
+      made : Claim before after stamp (key i) i true
+      made = subst (λ (b : Bool). Claim before after stamp (key i) i b) f c
+
+      pick : (b : Bool) → rank stamp (cond b (stamped stamp i) (slot_at before slot))
+          ≡ cond b (suc i) (rank stamp (slot_at before slot))
+      pick true = rw (eq-eqb stamp stamp refl)
+      pick false = refl
 
   -- a node that wants none
-  pub claimed_nothing : ((slot : ℕ) → slot < 256 → rank_in after part slot ≡ rank_in before part slot)
-      → uses i ≡ false
-      → Claimed uses key part before after i
-  claimed_nothing h u slot l = rw u (h slot l)
+  pub claimed_nothing : before ≡ after → uses i ≡ false → Claimed uses key before after stamp i
+  claimed_nothing e u slot l = rw (u, e)

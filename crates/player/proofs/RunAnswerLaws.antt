@@ -5,33 +5,29 @@ use mathlib.Core.Bool.{true, false, cond}
 use mathlib.Core.List.{List, [], ◌∷◌, ◌++◌}
 use Prim.Native.Nat.{ℕ}
 use lib.Dec.{eqb}
+use native.Mathlib.Omega.{arith}
+use borrow.Author.Tests.{ne_eqb}
+use Rattle.std.specs.Prelude.{Result, Ok, Err}
+use Rattle.std.specs.Result.{IsErr, IsErrAnd}
 use Rattle.semantics.specs.Program.{Program}
 use Rattle.semantics.specs.Questions.{Question, ask, first_no}
 use Rattle.semantics.specs.Check.{check_questions, check_number, fault_item}
 use Rattle.semantics.specs.State.{State, lengths_ok, well_formed}
 use Rattle.semantics.specs.Run.{run}
 use Rattle.semantics.specs.Calls.{Answer, answer, run_answer}
-use Rattle.semantics.proofs.Lists.QuestionLaws.{first_no-append}
+use Rattle.semantics.proofs.Lists.QuestionLaws.{after_check}
 use Rattle.semantics.proofs.Lists.FaultLaws.{no_item}
 use Rattle.semantics.proofs.Run.RunLaws.{answer_of}
 use Rattle.semantics.proofs.Order.FirstFault.{item_of_check}
+use Rattle.program.specs.declared.refusal.Refusal.{Refusal}
+use Rattle.program.specs.Refusals.{question_number, fault_in}
 use Rattle.program.specs.Answer.{CheckAnswer}
-use Rattle.player.specs.Run.{RunAnswer}
-
--- ---- the questions
-
--- the questions that come after check's, where check gives q
-pub after_check : (P : Program) (more : List Question) (q : ℕ) → q ≡ check_number P
-    → first_no (check_questions P ++ more) ≡ cond (eqb q 0) (first_no more) q
-unfolding check_number
-after_check P more q e =
-    first_no-append (check_questions P) more refl ∙ ap (λ (x : ℕ). cond (eqb x 0) (first_no more) x) (sym e)
+use Rattle.program.proofs.AnswerLaws.{check_item_lem, some_number}
+use Rattle.player.specs.declared.Stopped.{Stopped}
+use Rattle.player.specs.Run.{RunAnswer, number_of_run, item_of_run, worked_by}
 
 abbrev later : Program → State → List Question
 later P s = ask 5 (lengths_ok P s) ∷ ask 6 (well_formed P s) ∷ []
-
-pub check_item_lem : {P : Program} {q item : ℕ} → CheckAnswer P q item → fault_item P q ≡ item
-check_item_lem {P} c = ap (fault_item P) c.right_number ∙ sym c.right_item
 
 module _ {P : Program} {n : ℕ} {s : State} {book : List ℕ} where
   by_answer : {a : Answer} {item : ℕ} → run_answer P n s book ≡ a → a.item ≡ item
@@ -55,9 +51,16 @@ module _ {P : Program} {n : ℕ} {s : State} {book : List ℕ} where
       by_answer {a = answer P q 0 s}
       (ap (λ (x : ℕ). cond (eqb x 0) (answer_of P (run P n s book)) (answer P x 0 s)) e ∙ rw no_zero)
 
-  pub answer_check : {q item : ℕ} → CheckAnswer P q item → eqb q 0 ≡ false → RunAnswer P n s book q item 0 s
-  answer_check {q} c no_zero =
-      refused q (after_check P (later P s) q c.right_number ∙ rw no_zero) no_zero (check_item_lem c)
+  -- `?` passes on what check refuses, before the first cycle
+  pub answer_check : (r : Result ℕ Stopped) (refusal : Refusal)
+      → IsErr r × IsErrAnd r (λ x. x ≡ record { refusal = refusal; worked = 0 })
+      → CheckAnswer P (question_number refusal) (fault_in refusal)
+      → RunAnswer P n s book (number_of_run r) (item_of_run r) (worked_by r) s
+  answer_check (Ok worked) refusal e c = absurd e.1
+  answer_check (Err stopped) refusal e c =
+      let q = question_number refusal in
+      let no_zero = ne_eqb q 0 (λ z. let some = some_number refusal in omega arith) in
+      rw e.1 (refused q (after_check P (later P s) q c.right_number ∙ rw no_zero) no_zero (check_item_lem c))
 
   module _ (ok : check_number P ≡ 0) where
     pub answer_5 : lengths_ok P s ≡ false → RunAnswer P n s book 5 0 0 s

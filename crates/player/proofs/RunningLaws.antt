@@ -8,8 +8,7 @@ use mathlib.Core.Logic.{◌≢◌}
 use Prim.Native.Nat.{ℕ, suc, ◌+◌, ◌-◌, ◌≤◌, ◌<◌, zero-le}
 use native.Mathlib.Nat.{add-zero, sub-zero, min-le_right}
 use native.Mathlib.Omega.{arith}
-use lib.ListN.{length, drop, length-take, length-drop}
-use lib.Seq.{drop-drop}
+use lib.ListN.{length, drop, length-take}
 use borrow.Author.Tests.{eq-eqb, ne_eqb}
 use Rattle.semantics.specs.Program.{Program}
 use Rattle.semantics.specs.State.{State, mark_count, ended}
@@ -31,42 +30,40 @@ one_more_before k r =
     let e : k + suc r.worked ≡ (k + 1) + r.worked = omega arith in
     λ i. record { number = r.number; worked = e i; state = r.state; unread = r.unread }
 
--- k of n cycles are worked, so many entries are read, and the lists are s
-pub record Progress (P : Program) (n : ℕ) (s₀ : State) (book : List ℕ) (s : State) (k read : ℕ) : Type 0 where
+-- k of n cycles are worked, the lists are s, and `rest` are the entries not read yet
+pub record Progress (P : Program) (n : ℕ) (s₀ : State) (book : List ℕ) (s : State) (k : ℕ) (rest : List ℕ) : Type 0 where
   pub within : k ≤ n
-  pub inside : read ≤ length book
   pub runnable : Runnable P s
-  pub same : run P n s₀ book ≡ worked_before k (run P (n - k) s (drop read book))
+  pub same : run P n s₀ book ≡ worked_before k (run P (n - k) s rest)
 
 module _ {P : Program} {n : ℕ} {s₀ : State} {book : List ℕ} (start : Runnable P s₀) where
-  pub none_worked : Progress P n s₀ book s₀ 0 0
+  pub none_worked : Progress P n s₀ book s₀ 0 book
   none_worked =
       record {
         within = zero-le;
-        inside = zero-le;
         runnable = start;
         same = sym (none_before (run P n s₀ book))
             ∙ ap (λ (x : ℕ). worked_before 0 (run P x s₀ book)) (sym (sub-zero n));
       }
 
-  module _ {s : State} {k read : ℕ} (p : Progress P n s₀ book s k read) where
-    stops : {q : ℕ} → run P (n - k) s (drop read book) ≡ stopped q s (drop read book) → RunAnswer P n s₀ book q 0 k s
+  module _ {s : State} {k : ℕ} {rest : List ℕ} (p : Progress P n s₀ book s k rest) where
+    stops : {q : ℕ} → run P (n - k) s rest ≡ stopped q s rest → RunAnswer P n s₀ book q 0 k s
     stops {q} e =
         answer_cycles start.accepted
         (answer_of_run P start.accepted s₀ start.ready n book ∙ ap (answer_of P) (p.same ∙ ap (worked_before k) e)
         ∙ (λ i. answer P q (add-zero k i) s))
 
     -- as many as are asked
-    pub all-worked : n ≤ k → RunAnswer P n s₀ book 0 0 k s
-    all-worked l =
+    pub all-worked : {worked : ℕ} → worked ≡ k → n ≤ k → RunAnswer P n s₀ book 0 0 worked s
+    all-worked w l =
         let e : n - k ≡ 0 = omega arith in
-        stops (ap (λ (x : ℕ). run P x s (drop read book)) e ∙ run_no_cycle P s (drop read book))
+        rw w (stops (ap (λ (x : ℕ). run P x s rest) e ∙ run_no_cycle P s rest))
 
     module _ {m : ℕ} (counted : m ≡ mark_count s.marks) where
       -- no mark stands
       pub no_mark : m ≡ 0 → RunAnswer P n s₀ book 0 0 k s
       no_mark z =
-          stops (run_ended P (n - k) s (drop read book) (eq-eqb (mark_count s.marks) 0 (sym counted ∙ z)))
+          stops (run_ended P (n - k) s rest (eq-eqb (mark_count s.marks) 0 (sym counted ∙ z)))
 
       module _ (l : k < n) (some : m ≢ 0) where
         a_mark : ended s ≡ false
@@ -76,38 +73,40 @@ module _ {P : Program} {n : ℕ} {s₀ : State} {book : List ℕ} (start : Runna
         next = omega arith
 
         -- the cycle is refused
-        pub one_refused : {q : ℕ} {s' : State} → CycleAnswer P s (drop read book) q s' → q ≢ 0
+        pub one_refused : {q : ℕ} {s' : State} → CycleAnswer P s rest q s' → q ≢ 0
             → RunAnswer P n s₀ book q 0 k s'
         one_refused {q} {s'} a no_zero =
-            let refuses : Refuses P s (drop read book) q =
+            let refuses : Refuses P s rest q =
             (a_mark, a.outcome ∙ ap (λ (b : Bool). cond b (advances_to s') (refused q)) (ne_eqb q 0 no_zero)) in
             subst (RunAnswer P n s₀ book q 0 k) (sym (a.kept no_zero))
-            (stops (ap (λ (x : ℕ). run P x s (drop read book)) next
-            ∙ run_refused P (n - (k + 1)) q s (drop read book) refuses))
+            (stops (ap (λ (x : ℕ). run P x s rest) next
+            ∙ run_refused P (n - (k + 1)) q s rest refuses))
 
-        -- the cycle is worked
-        pub one_worked : {s' : State} → CycleAnswer P s (drop read book) 0 s'
-            → Progress P n s₀ book s' (k + 1) (read + m)
-        one_worked {s'} a =
-            let rest = drop read book in
-            let works : WorksTo P s rest s' = (a_mark, a.outcome) in
-            let active = worked_active P s s' rest works in
-            let ready = p.runnable in
-            let enough : mark_count s.marks ≤ length rest =
-            subst (λ (x : ℕ). x ≤ length rest)
-            (sym (length-take (mark_count s.marks) rest)
-            ∙ ((active_means s.marks (next_entries s rest)).0 active).as_many)
-            (min-le_right (mark_count s.marks) (length rest)) in
-            record {
-              within = omega arith;
-              inside = omega (arith, length-drop read book);
-              runnable = record {
-                accepted = ready.accepted;
-                ready = leaves_ready P ready.accepted s ready.ready s' (next_entries s rest) active a.outcome;
-              };
-              same = p.same ∙ ap (λ (x : ℕ). worked_before k (run P x s rest)) next
-                  ∙ ap (worked_before k) (run_worked P (n - (k + 1)) s s' rest works)
-                  ∙ one_more_before k (run P (n - (k + 1)) s' (later_entries s rest))
-                  ∙ ap (λ (b : List ℕ). worked_before (k + 1) (run P (n - (k + 1)) s' b))
-                  (drop-drop (mark_count s.marks) read book ∙ ap (λ (x : ℕ). drop (read + x) book) (sym counted));
-            }
+        -- the cycle is worked: its entries are there
+        module _ {s' : State} (a : CycleAnswer P s rest 0 s') where
+          works : WorksTo P s rest s'
+          works = (a_mark, a.outcome)
+
+          pub enough : m ≤ length rest
+          enough =
+              let active = worked_active P s s' rest works in
+              subst (λ (x : ℕ). x ≤ length rest)
+              (sym (length-take (mark_count s.marks) rest)
+              ∙ ((active_means s.marks (next_entries s rest)).0 active).as_many ∙ sym counted)
+              (min-le_right (mark_count s.marks) (length rest))
+
+          pub one_worked : Progress P n s₀ book s' (k + 1) (drop m rest)
+          one_worked =
+              let active = worked_active P s s' rest works in
+              let ready = p.runnable in
+              record {
+                within = omega arith;
+                runnable = record {
+                  accepted = ready.accepted;
+                  ready = leaves_ready P ready.accepted s ready.ready s' (next_entries s rest) active a.outcome;
+                };
+                same = p.same ∙ ap (λ (x : ℕ). worked_before k (run P x s rest)) next
+                    ∙ ap (worked_before k) (run_worked P (n - (k + 1)) s s' rest works)
+                    ∙ one_more_before k (run P (n - (k + 1)) s' (later_entries s rest))
+                    ∙ ap (λ (x : ℕ). worked_before (k + 1) (run P (n - (k + 1)) s' (drop x rest))) (sym counted);
+              }

@@ -1,30 +1,33 @@
 -- The stamps of a run: they rise from cycle to cycle, so that at the start of a cycle none has its stamp.
-use mathlib.Core.Path.{◌≡◌, ◌∙◌}
-use mathlib.Core.List.{List}
-use Prim.Native.Nat.{ℕ, ◌+◌}
+use mathlib.Core.Path.{sym, subst}
+use Prim.Native.Nat.{ℕ, ◌+◌, ◌≤◌}
+use native.Mathlib.Nat.{le_refl}
 use native.Mathlib.Omega.{arith}
-use lib.ListN.{get_or, set, replicate, length-set, length-replicate}
-use lib.Seq.{get_or-set_same, get_or-set_other}
-use Rattle.semantics.proofs.Lists.NumberLaws.{zeros}
-use Rattle.player.specs.Claims.{Aged, Fresh}
+use lib.ListN.{replicate, length-replicate}
+use Rattle.std.proofs.lemmas.List.{get_or-replicate}
+use Rattle.player.specs.declared.claims.Slot.{Slot}
+use Rattle.player.specs.declared.claims.Slots.{Slots}
+use Rattle.player.specs.declared.claims.Claims.{Claims}
+use Rattle.player.specs.Claims.{UpTo, Unclaimed, Aged, Fresh}
 
-pub aged_first : Aged (replicate 3586 0) 0
-aged_first = record {
-  size = length-replicate {A = ℕ} 3586 0;
-  stamps = λ j l. let z = zeros 3586 j in omega arith;
+abbrev unclaimed : Slot
+unclaimed = record { stamp = 0; node = 0 }
+
+-- at first no slot was claimed
+pub new_slots : UpTo (record { slots = replicate 256 unclaimed }) 0
+new_slots = record {
+  size = length-replicate 256 unclaimed;
+  stamps = λ j l.
+      subst (λ (x : Slot). x.stamp ≤ 0) (sym (get_or-replicate 256 j unclaimed unclaimed l)) (le_refl 0);
 }
 
-module _ {claims : List ℕ} {n : ℕ} (a : Aged claims n) where
-  pub stamp-set : get_or (set claims 3584 (n + 1)) 3584 0 ≡ n + 1
-  stamp-set = let s = a.size in get_or-set_same claims 3584 (n + 1) 0 (omega arith)
+unclaimed_next : {s : Slots} {n : ℕ} → UpTo s n → Unclaimed s (n + 1)
+unclaimed_next a = record { size = a.size; stamps = λ j l. omega (arith, a.stamps j l) }
 
-  -- the stamp of the next cycle is above all
-  pub fresh_next : Fresh (set claims 3584 (n + 1))
-  fresh_next = record {
-    size = length-set claims 3584 (n + 1) ∙ a.size;
-    stamps = λ j l.
-        let other = get_or-set_other claims 3584 j (n + 1) 0 (λ (e : j ≡ 3584). omega arith) in
-        let old = a.stamps j l in
-        let stamp = stamp-set in
-        omega arith;
-  }
+-- the stamp of the next cycle is above all
+pub fresh_next : {claims : Claims} {n : ℕ} → Aged claims n → Fresh (record claims { stamp = n + 1 })
+fresh_next a = record {
+  inputs = unclaimed_next a.inputs;
+  outputs = unclaimed_next a.outputs;
+  writers = unclaimed_next a.writers;
+}

@@ -1,155 +1,226 @@
 -- The first n stores of a cycle are made, in the values and in what `work` has of them, and can be taken back.
-use mathlib.Core.Path.{◌≡◌, refl, sym, ap, ◌∙◌}
-use mathlib.Core.Bool.{Bool, false, not, ◌||◌}
-use mathlib.Core.List.{List}
-use mathlib.Core.Logic.{◌≢◌, inl, inr}
-use Prim.Native.Nat.{ℕ, suc, ◌+◌, ◌≤◌, ◌<◌}
-use native.Mathlib.Nat.{le_refl}
-use native.Mathlib.Numerals.{add-one}
-use native.Mathlib.Omega.{arith}
-use lib.Bits.{bit_and}
-use lib.Dec.{eqb}
-use lib.ListN.{length, get_or, set, length-set}
-use lib.Seq.{get_or-set_same, get_or-set_other, set-get_or, set-set}
+use Rattle.std.proofs.Common.{◌≡◌, ℕ, suc, ◌+◌, ◌≤◌, ◌<◌, Bool, false, not, ◌||◌, eqb, List, length, get_or, set}
+use Rattle.std.proofs.Common.{take, [], ◌∷◌, ◌++◌, ◌-◌, refl, sym, ap, ◌∙◌, inl, inr, arith, add-one, subst}
+use Rattle.std.proofs.Common.{length-set, length-append, get_or-set_same, get_or-set_other}
+use Rattle.std.proofs.lemmas.List.{set-get_or, get_or-take, get_or_append_left, length-take}
+use Rattle.std.proofs.Math.Seq.{set-set, get_or-append_seam}
 use borrow.Author.Tests.{eqb-true, eqb-false, not-false}
 use Rattle.semantics.proofs.Lists.Logic.{or_left, or_right, true_or_false}
-use Rattle.player.specs.Work.{KeptFrom, masked_by}
-use Rattle.player.specs.Stores.{put_first, store_at, taken_back, HeldFit, Exchanged, Stored}
-use Rattle.player.proofs.HeldLaws.{back_same}
+use Rattle.player.specs.declared.stores.Store.{Store}
+use Rattle.player.specs.declared.stores.Stores.{Stores}
+use Rattle.player.specs.declared.work.Work.{Work}
+use Rattle.player.specs.Memo.{Holds}
+use Rattle.player.specs.Work.{masked_by}
+use Rattle.player.specs.Stores.{put_first, store_at, variable_at, comes_to, taken_back, HeldFit, Stored}
+use Rattle.player.proofs.HeldLaws.{no_store, HoldSame, put_same, back_same, written_other, written_before, written_here}
 
--- a list of which one element is written, where two lists agree
-agree-set : (n v value : ℕ) (xs ys : List ℕ) → v < length xs → v < length ys
-    → ((j : ℕ) → j < n → get_or xs j 0 ≡ get_or ys j 0)
-    → (j : ℕ) → j < n → get_or (set xs v value) j 0 ≡ get_or (set ys v value) j 0
-agree-set n v value xs ys a b h j l =
+-- two lists that are read alike, of which one element is written
+alike-set : (v value : ℕ) (xs ys : List ℕ) → v < length xs → v < length ys
+    → ((j : ℕ) → get_or xs j 0 ≡ get_or ys j 0) → (j : ℕ) → get_or (set xs v value) j 0 ≡ get_or (set ys v value) j 0
+alike-set v value xs ys a b h j =
     elim (true_or_false (eqb j v)) [
       | inl e ↦
           let here : j ≡ v = eqb-true j v e in
           rw here (get_or-set_same xs v value 0 a ∙ sym (get_or-set_same ys v value 0 b))
       | inr e ↦
           let n = eqb-false j v e in
-          get_or-set_other xs v j value 0 n ∙ h j l ∙ sym (get_or-set_other ys v j value 0 n)
+          get_or-set_other xs v j value 0 n ∙ h j ∙ sym (get_or-set_other ys v j value 0 n)
     ]
 
 -- an element that is written and written back
 set_back : (values : List ℕ) (v value : ℕ) → set (set values v value) v (get_or values v 0) ≡ values
 set_back values v value = set-set values v value (get_or values v 0) ∙ set-get_or values v 0
 
-module _ (old before claims₀ : List ℕ) where
-  -- The first n stores are made, and their old values are held.
-  pub record StoredTo (changed : Bool) (values work claims : List ℕ) (n : ℕ) : Type 0 where
-    pub size : length work ≡ length before
-    pub values_size : length values ≡ length old
-    pub right : values ≡ put_first (masked_by before) claims₀ n old
-    pub variables : (v : ℕ) → v < length old → get_or work v 0 ≡ get_or values v 0
-    pub kept : KeptFrom 256 before work
-    pub same : changed ≡ false → values ≡ old
-    pub exchanged : Exchanged claims₀ claims
-    pub ahead : (j : ℕ) → n ≤ j → get_or claims (2560 + j) 0 ≡ get_or claims₀ (2560 + j) 0
-    pub back : taken_back claims n values ≡ old
+-- the variables of what a run keeps, changed
+abbrev with_variables : Work → List ℕ → Work
+with_variables work variables = record work { memo = record work.memo { variables = variables } }
 
-  pub stored_none : ((v : ℕ) → v < length old → get_or before v 0 ≡ get_or old v 0)
-      → StoredTo false old before claims₀ 0
-  stored_none h = record {
-    size = refl;
+module _ (old : List ℕ) (before : Work) (listed : List Store) where
+  -- The first n of the listed stores are made, and their old values are held.
+  pub record StoredTo (changed : Bool) (values : List ℕ) (work : Work) (list : List Store) (n : ℕ) : Type 0 where
+    pub within : n ≤ length listed
+    pub values_size : length values ≡ length old
+    pub size : length work.memo.variables ≡ 256
+    pub as_many : length list ≡ length listed
+    pub right : values ≡ put_first (masked_by before) listed n old
+    pub variables : Holds values work.memo
+    pub kept : work ≡ with_variables before work.memo.variables
+    pub same : changed ≡ false → values ≡ old
+    pub targets : (j : ℕ) → variable_at list j ≡ variable_at listed j
+    pub ahead : (j : ℕ) → n ≤ j → store_at list j ≡ store_at listed j
+    pub back : taken_back list n values ≡ old
+
+  pub stored_none : length before.memo.variables ≡ 256 → Holds old before.memo
+      → StoredTo false old before listed 0
+  stored_none size h = record {
+    within = omega arith;
     values_size = refl;
+    size = size;
+    as_many = refl;
     right = refl;
     variables = h;
-    kept = λ j l. refl;
+    kept = refl;
     same = λ r. refl;
-    exchanged = record { size = refl; front = λ j l. refl; end = λ j l. refl };
+    targets = λ j. refl;
     ahead = λ j l. refl;
     back = refl;
   }
 
-  module _ {changed : Bool} {values work claims : List ℕ} {n : ℕ} (h : StoredTo changed values work claims n) where
-    pub stored-all : n ≡ get_or claims₀ 3585 0 → Stored old before claims₀ changed values work claims
-    stored-all e = record {
-      size = h.size;
-      right = h.right ∙ ap (λ (i : ℕ). put_first (masked_by before) claims₀ i old) e;
-      same_length = h.values_size;
-      variables = h.variables;
-      kept = h.kept;
-      same = h.same;
-      exchanged = h.exchanged;
-      back = ap (λ (i : ℕ). taken_back claims i values) (sym e) ∙ h.back;
-    }
+  -- store n is made
+  module _ {changed : Bool} {values : List ℕ} {work : Work} {list : List Store} {n : ℕ}
+      (h : StoredTo changed values work list n) (l : n < length listed) where
+    abbrev target : ℕ
+    target = variable_at list n
 
-    module _ (fit : HeldFit old claims₀) (l : n < get_or claims₀ 3585 0) where
-      abbrev target : ℕ
-      target = get_or claims (1536 + n) 0
+    abbrev value : ℕ
+    value = comes_to work (store_at list n)
 
-      abbrev value : ℕ
-      value = store_at work claims n
+    abbrev was : ℕ
+    was = get_or values target 0
 
-      room : n < 1024
-      room = let few = fit.few in omega arith
+    abbrev held : Store
+    held = record (store_at list n) { value = was }
 
-      same_target : target ≡ get_or claims₀ (1536 + n) 0
-      same_target = let u = room in h.exchanged.front (1536 + n) (omega arith)
+    pub stored_more : target < length values → target < 256
+        → StoredTo (not (eqb was value) || changed) (set values target value)
+        (with_variables work (set work.memo.variables target value)) (set list n held) (n + 1)
+    stored_more inside few =
+        let here : store_at list n ≡ store_at listed n = h.ahead n (omega arith) in
+        let room : n < length list = omega (arith, h.as_many) in
+        let placed = written_here list n held room in
+        record {
+          within = omega arith;
+          values_size = length-set values target value ∙ h.values_size;
+          size = length-set work.memo.variables target value ∙ h.size;
+          as_many = length-set list n held ∙ h.as_many;
+          right =
+              let first = h.right in
+              let mask = ap (λ (w : Work). w.masks) h.kept in
+              (λ i. set (first i) (here i).variable.0 (comes_to (record work { masks = mask i }) (here i)))
+              ∙ ap (λ (i : ℕ). put_first (masked_by before) listed i old) (sym (add-one n));
+          variables =
+              alike-set target value work.memo.variables values (omega (arith, h.size)) inside h.variables;
+          kept = ap (λ (w : Work). with_variables w (set work.memo.variables target value)) h.kept;
+          same = λ r.
+              let differs = not (eqb was value) in
+              let still = eqb-true was value (not-false _ (or_left differs changed r)) in
+              ap (set values target) (sym still) ∙ set-get_or values target 0 ∙ h.same (or_right differs changed r);
+          targets = λ j. elim (true_or_false (eqb j n)) [
+            | inl e ↦
+                let at : j ≡ n = eqb-true j n e in
+                rw at (ap (λ (s : Store). s.variable.0) placed ∙ h.targets n)
+            | inr e ↦
+                ap (λ (s : Store). s.variable.0) (written_other list n held j (eqb-false j n e)) ∙ h.targets j
+          ];
+          ahead = λ j m. written_other list n held j (λ e. omega arith) ∙ h.ahead j (omega arith);
+          back =
+              ap (λ (i : ℕ). taken_back (set list n held) i (set values target value)) (add-one n)
+              ∙ (λ i. let s = placed i in taken_back (set list n held) n (set (set values target value) s.variable.0 s.value))
+              ∙ ap (taken_back (set list n held) n) (set_back values target value)
+              ∙ back_same list (set list n held) n values (written_before list n held) ∙ h.back;
+        }
 
-      pub stored_target : target < length values
-      stored_target =
-          let was = fit.targets n l in
-          let same = same_target in
-          let length-same = h.values_size in
-          omega arith
+-- ---- the stores of a cycle: the first of a longer list
 
-      pub stored_few : target < 256
-      stored_few =
-          let inside = stored_target in
-          let most = fit.values_fit in
-          let length-same = h.values_size in
-          omega arith
+module _ {old : List ℕ} {stores : Stores} (fit : HeldFit old stores) where
+  abbrev pub listed_in : List Store
+  listed_in = take stores.count stores.list
 
-      -- store n is made
-      pub stored_more : length before ≡ 3587
-          → StoredTo (not (eqb (get_or values target 0) value) || changed) (set values target value)
-          (set work target value) (set claims (2560 + n) (get_or values target 0)) (n + 1)
-      stored_more full =
-          let u = room in
-          let few = stored_few in
-          let sizes : length claims ≡ 3586 = h.exchanged.size ∙ fit.size in
-          let claims' = set claims (2560 + n) (get_or values target 0) in
-          let other : (j : ℕ) → j ≢ 2560 + n → get_or claims' j 0 ≡ get_or claims j 0 =
-          λ j d. get_or-set_other claims (2560 + n) j (get_or values target 0) 0 d in
-          record {
-            size = length-set work target value ∙ h.size;
-            values_size = length-set values target value ∙ h.values_size;
-            right =
-                let first = h.right in
-                let here = same_target in
-                let new = h.ahead n (le_refl n) in
-                let mask = h.kept (3331 + target) (omega arith) in
-                ap (λ (m : ℕ). set values target (bit_and (get_or claims (2560 + n) 0) m)) mask
-                ∙ (λ i. set (first i) (here i) (masked_by before (here i) (new i)))
-                ∙ ap (λ (i : ℕ). put_first (masked_by before) claims₀ i old) (sym (add-one n));
-            variables =
-                agree-set (length old) target value work values (omega (arith, h.size)) stored_target h.variables;
-            kept = λ j m. get_or-set_other work target j value 0 (λ e. omega arith) ∙ h.kept j m;
-            same = λ r.
-                let differs = not (eqb (get_or values target 0) value) in
-                let still = eqb-true (get_or values target 0) value (not-false _ (or_left differs changed r)) in
-                ap (set values target) (sym still) ∙ set-get_or values target 0 ∙ h.same (or_right differs changed r);
-            exchanged = record {
-              size = length-set claims (2560 + n) (get_or values target 0) ∙ h.exchanged.size;
-              front = λ j m. other j (λ e. omega arith) ∙ h.exchanged.front j m;
-              end = λ j m. other j (λ e. omega arith) ∙ h.exchanged.end j m;
-            };
-            ahead = λ j m. other (2560 + j) (λ e. omega arith) ∙ h.ahead j (omega arith);
-            back =
-                let place : get_or claims' (1536 + n) 0 ≡ target = other (1536 + n) (λ e. omega arith) in
-                let was : get_or claims' (2560 + n) 0 ≡ get_or values target 0 =
-                get_or-set_same claims (2560 + n) (get_or values target 0) 0 (omega arith) in
-                ap (λ (i : ℕ). taken_back claims' i (set values target value)) (add-one n)
-                ∙ (λ i. taken_back claims' n (set (set values target value) (place i) (was i)))
-                ∙ ap (taken_back claims' n) (set_back values target value)
-                ∙ back_same claims claims' n values
-                (λ j m. (other (1536 + j) (λ e. omega arith), other (2560 + j) (λ e. omega arith))) ∙ h.back;
-          }
+  listed-length : length listed_in ≡ stores.count
+  listed-length =
+      let few = fit.few in let size = fit.size in omega (arith, length-take stores.count stores.list)
 
--- one store of those that are taken back
-pub back_next : (claims : List ℕ) (n m : ℕ) (values : List ℕ) → m ≡ suc n
-    → taken_back claims m values
-    ≡ taken_back claims n (set values (get_or claims (1536 + n) 0) (get_or claims (2560 + n) 0))
-back_next claims n m values e = ap (λ (i : ℕ). taken_back claims i values) e
+  listed_same : (j : ℕ) → j < stores.count → store_at listed_in j ≡ store_at stores.list j
+  listed_same j l = get_or-take stores.count stores.list j no_store l
+
+  module _ {before : Work} {changed : Bool} {values : List ℕ} {work : Work} {list : List Store} {n : ℕ}
+      (h : StoredTo old before listed_in changed values work list n) where
+    -- the variable of a store
+    target_inside : (j : ℕ) → j < stores.count → variable_at list j < length values
+    target_inside j l =
+        let inside = fit.targets j l in
+        let same = h.targets j ∙ ap (λ (s : Store). s.variable.0) (listed_same j l) in
+        let sizes = h.values_size in
+        omega arith
+
+    pub stored_target : n < length listed_in
+        → (variable_at list n < length values) × (variable_at list n < 256)
+    stored_target l =
+        let inside = target_inside n (omega (arith, listed-length)) in
+        let sizes = h.values_size in
+        let most = fit.values_fit in
+        (inside, omega arith)
+
+    -- all are made, and the others stay
+    pub stored-all : (rest : List Store) → length rest ≡ length stores.list - stores.count → length listed_in ≤ n
+        → Stored old before stores changed values work (record { list = list ++ rest; count = stores.count })
+    stored-all rest more l =
+        let within = h.within in
+        let all : n ≡ stores.count = omega (arith, listed-length) in
+        let front : length list ≡ stores.count = h.as_many ∙ listed-length in
+        let here : HoldSame list (list ++ rest) stores.count =
+        λ j m. get_or_append_left list rest no_store j (omega arith) in
+        record {
+          right = h.right
+              ∙ ap (λ (i : ℕ). put_first (masked_by before) listed_in i old) all
+              ∙ put_same stores.list listed_in (masked_by before) stores.count old listed_same;
+          same_length = h.values_size;
+          variables = h.variables;
+          kept = h.kept;
+          size = h.size;
+          same = h.same;
+          fit = record {
+            size = let few = fit.few in let size = fit.size in omega (arith, length-append list rest);
+            few = fit.few;
+            values_fit = let most = fit.values_fit in let sizes = h.values_size in omega arith;
+            targets = λ j m.
+                subst (λ (s : Store). s.variable.0 < length values) (sym (here j m)) (target_inside j m);
+          };
+          as_many = refl;
+          back = back_same list (list ++ rest) stores.count values here
+              ∙ ap (λ (i : ℕ). taken_back list i values) (sym all) ∙ h.back;
+        }
+
+-- ---- the stores are taken back, the last first
+
+-- What is left to take back leads from these values to those from before the stores.
+pub record LeftToRestore (start : List ℕ) (stores : Stores) (values : List ℕ) (rest : List Store) : Type 0 where
+  pub targets : (j : ℕ) → j < length rest → variable_at rest j < length values
+  pub back : taken_back rest (length rest) values ≡ taken_back stores.list stores.count start
+
+pub restore_start : {values : List ℕ} {stores : Stores} (fit : HeldFit values stores)
+    → LeftToRestore values stores values (listed_in fit)
+restore_start {values} {stores} fit = record {
+  targets = λ j l.
+      let m : j < stores.count = omega (arith, listed-length fit) in
+      subst (λ (s : Store). s.variable.0 < length values) (sym (listed_same fit j m)) (fit.targets j m);
+  back = ap (λ (i : ℕ). taken_back (listed_in fit) i values) (listed-length fit)
+      ∙ back_same stores.list (listed_in fit) stores.count values (listed_same fit);
+}
+
+module _ {start : List ℕ} {stores : Stores} {values : List ℕ} (rest : List Store) (store : Store) (more : List Store)
+    (h : LeftToRestore start stores values more) (split : more ≡ rest ++ store ∷ []) where
+  last-length : length more ≡ suc (length rest)
+  last-length = ap length split ∙ omega (arith, length-append rest (store ∷ []))
+
+  last_store : store_at more (length rest) ≡ store
+  last_store =
+      ap (λ (xs : List Store). store_at xs (length rest)) split ∙ get_or-append_seam rest store [] no_store
+
+  first_stores : HoldSame rest more (length rest)
+  first_stores j l =
+      ap (λ (xs : List Store). store_at xs j) split ∙ get_or_append_left rest (store ∷ []) no_store j l
+
+  pub restore_more : LeftToRestore start stores (set values store.variable.0 store.value) rest
+  restore_more =
+      let values' = set values store.variable.0 store.value in
+      record {
+        targets = λ j l.
+            let inside =
+            subst (λ (s : Store). s.variable.0 < length values) (first_stores j l)
+            (h.targets j (omega (arith, last-length))) in
+            omega (arith, length-set values store.variable.0 store.value);
+        back = sym (back_same rest more (length rest) values' first_stores)
+            ∙ (λ i. taken_back more (length rest) (set values (sym last_store i).variable.0 (sym last_store i).value))
+            ∙ ap (λ (i : ℕ). taken_back more i values) (sym last-length) ∙ h.back;
+      }

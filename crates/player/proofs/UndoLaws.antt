@@ -1,56 +1,24 @@
 -- Counts from marks: the pass that counts anew, from the last node to the first, and that in a well-formed state it
 -- finds the counts of the state.
-use mathlib.Core.Path.{◌≡◌, refl, sym, ◌∙◌, subst}
-use mathlib.Core.Bool.{true, false, cond, ◌||◌}
+use mathlib.Core.Path.{◌≡◌, sym, ◌∙◌, subst}
+use mathlib.Core.Bool.{true, cond, ◌||◌}
 use mathlib.Core.List.{List}
 use mathlib.Core.Logic.{inl, inr}
 use Prim.Native.Nat.{ℕ, suc, ◌≤◌, ◌<◌}
 use native.Mathlib.Nat.{le_refl}
 use native.Mathlib.Omega.{arith}
-use lib.Dec.{eqb, ltb}
-use lib.ListN.{length, get_or, set, length-set}
+use lib.Dec.{ltb}
+use lib.ListN.{length, get_or, set, replicate, length-set}
 use lib.Seq.{get_or-set_same, get_or-set_other, ext_get_or}
 use borrow.Author.Tests.{eqb-true}
-use Rattle.semantics.specs.Program.{Program, Kind, node_count, is_par, kind_of, kind_at}
-use Rattle.semantics.specs.State.{State, marked, live_children, marks_are_bits, leaves_marked, pairs_meet_in_par}
+use Rattle.semantics.specs.Program.{Program, node_count, is_par, kind_at}
+use Rattle.semantics.specs.State.{State, marked, marks_are_bits, leaves_marked, pairs_meet_in_par}
 use Rattle.semantics.specs.State.{control_formed, well_formed}
-use Rattle.semantics.proofs.Lists.Logic.{and_left, lt_or_le, true_or_false, cond-at}
+use Rattle.semantics.proofs.Lists.Logic.{and_left, lt_or_le}
 use Rattle.semantics.proofs.Tree.WellFormedOnTree.{control_formed-in}
 use Rattle.semantics.proofs.Order.InRange.{control_formed_lem}
-use Rattle.player.specs.Walks.{kind_word}
-use Rattle.player.specs.WellFormed.{ListsFit, added_to_parent, LiveTable}
-use Rattle.player.proofs.LiveTableLaws.{own_live, table_step}
-
--- what the count of node i is, by the marks
-abbrev pub count_from : List ℕ → List ℕ → ℕ → ℕ
-count_from nodes marks i = cond (is_par (kind_at nodes i)) (live_children nodes marks i) 0
-
--- a PAR has the number 2
-par_number : (w : ℕ) → is_par (kind_of w) ≡ eqb w 2
-unfolding kind_of
-par_number w =
-    let Other : Kind → Type 0 = λ k. is_par k ≡ false in
-    elim (true_or_false (eqb w 2)) [
-      | inl h ↦ rw (eqb-true w 2 h)
-      | inr h ↦
-          rw h
-          (cond-at Other (eqb w 1) refl
-          (cond-at Other (eqb w 3) refl
-          (cond-at Other (eqb w 4) refl
-          (cond-at Other (eqb w 5) refl
-          (cond-at Other (eqb w 6) refl (cond-at Other (eqb w 7) refl (cond-at Other (eqb w 8) refl refl)))))))
-    ]
-
--- the lists fit with other marks, as many
-pub other_marks_fit : {nodes marks counts marks' : List ℕ} → ListsFit nodes marks counts
-    → length marks' ≡ length marks → ListsFit nodes marks' counts
-other_marks_fit lists same =
-    record {
-      nodes_ok = lists.nodes_ok;
-      nodes_fit = lists.nodes_fit;
-      marks_fit = same ∙ lists.marks_fit;
-      counts_fit = lists.counts_fit;
-    }
+use Rattle.player.specs.WellFormed.{ListsFit, added_to_parent, LiveTable, count_from}
+use Rattle.player.proofs.LiveTableLaws.{table_start, own_live, table_step}
 
 -- ---- the nodes from i on are counted, and added to the table
 pub record Recounted (nodes marks : List ℕ) (i : ℕ) (counts live : List ℕ) : Type 0 where
@@ -59,26 +27,25 @@ pub record Recounted (nodes marks : List ℕ) (i : ℕ) (counts live : List ℕ)
   pub table : LiveTable nodes marks i live
   pub right : (j : ℕ) → i ≤ j → j < node_count nodes → get_or counts j 0 ≡ count_from nodes marks j
 
-pub recount_start : {nodes marks counts live : List ℕ} → ListsFit nodes marks counts
-    → LiveTable nodes marks (node_count nodes) live → Recounted nodes marks (length marks) counts live
-recount_start {nodes} lists table =
+pub recount_start : {P : Program} {marks counts : List ℕ} → ListsFit P marks counts
+    → Recounted P.nodes marks (length marks) counts (replicate 1024 0)
+recount_start {P} lists =
     rw lists.marks_fit
     (record {
-      within = le_refl (node_count nodes);
+      within = le_refl (node_count P.nodes);
       size = lists.counts_fit;
-      table = table;
+      table = table_start lists;
       right = λ j v f. absurd (omega arith);
     })
 
-pub recount_step : {nodes marks counts₀ : List ℕ} {i : ℕ} {counts live : List ℕ} → ListsFit nodes marks counts₀
-    → Recounted nodes marks (suc i) counts live
-    → Recounted nodes marks i (set counts i (cond (eqb (kind_word nodes i) 2) (get_or live i 0) 0))
-    (added_to_parent nodes i (marked marks i || ltb 0 (get_or live i 0)) live)
-recount_step {nodes} {marks} {counts₀} {i} {counts} {live} lists so_far =
+pub recount_step : {P : Program} {marks counts₀ : List ℕ} {i : ℕ} {counts live : List ℕ} → ListsFit P marks counts₀
+    → Recounted P.nodes marks (suc i) counts live
+    → Recounted P.nodes marks i (set counts i (cond (is_par (kind_at P.nodes i)) (get_or live i 0) 0))
+    (added_to_parent P.nodes i (marked marks i || ltb 0 (get_or live i 0)) live)
+recount_step {P} {marks} {counts₀} {i} {counts} {live} lists so_far =
     let l = so_far.within in
-    let count : ℕ = cond (eqb (kind_word nodes i) 2) (get_or live i 0) 0 in
-    let own : count ≡ count_from nodes marks i =
-    rw (par_number (kind_word nodes i), own_live lists l so_far.table) in
+    let count : ℕ = cond (is_par (kind_at P.nodes i)) (get_or live i 0) 0 in
+    let own : count ≡ count_from P.nodes marks i = rw (own_live lists l so_far.table) in
     record {
       within = omega arith;
       size = length-set counts i count ∙ so_far.size;
@@ -88,7 +55,7 @@ recount_step {nodes} {marks} {counts₀} {i} {counts} {live} lists so_far =
             get_or-set_other counts i j count 0 (λ (e : j ≡ i). omega arith) ∙ so_far.right j w f
         | inr w ↦
             let e : i ≡ j = omega arith in
-            subst (λ (k : ℕ). get_or (set counts i count) k 0 ≡ count_from nodes marks k) e
+            subst (λ (k : ℕ). get_or (set counts i count) k 0 ≡ count_from P.nodes marks k) e
             (get_or-set_same counts i count 0 (omega (arith, so_far.size)) ∙ own)
       ];
     }

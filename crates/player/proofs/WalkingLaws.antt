@@ -1,66 +1,86 @@
 -- What holds at each place of a walk still holds when an expression was worked, a count changed, a leaf was marked, or a
--- zero-time loop was noted.
-use mathlib.Core.Path.{◌≡◌, ◌∙◌}
-use mathlib.Core.Bool.{Bool, true, false, cond}
-use mathlib.Core.List.{List}
-use Prim.Native.Nat.{ℕ}
-use native.Mathlib.Omega.{arith}
-use lib.ListN.{length, set, length-set}
-use lib.Seq.{get_or-set_other}
+-- zero-time loop was noted; and what no walk writes is kept.
+use Rattle.std.proofs.Common.{◌≡◌, ℕ, Bool, true, false, List, length, set, length-set, refl, ◌∙◌, arith}
+use Rattle.semantics.specs.Program.{Program}
 use Rattle.semantics.specs.State.{mark_count}
-use Rattle.player.specs.Work.{Memo, KeptFrom, Tallied}
-use Rattle.player.specs.Walks.{Walking}
-use Rattle.player.proofs.WorkLaws.{tally-set, memo-set}
+use Rattle.player.specs.declared.memo.Memo.{Memo}
+use Rattle.player.specs.declared.work.Work.{Work}
+use Rattle.player.specs.declared.outcome.Outcome.{Outcome}
+use Rattle.player.specs.declared.outcome.Outcome.TheVariants.{Finished, Stays}
+use Rattle.player.specs.Memo.{Known, SameMoment}
+use Rattle.player.specs.Work.{Tallied, KeptTables}
+use Rattle.player.specs.Walks.{Walking, passed_by}
 
-module _ {exprs nodes values marks counts work : List ℕ} (w : Walking exprs nodes values marks counts work) where
+-- ---- what no walk writes
+
+pub kept_refl : {work : Work} → KeptTables work work
+kept_refl = record { variables = refl; parents = refl; masks = refl }
+
+pub kept_trans : {first second third : Work} → KeptTables first second → KeptTables second third
+    → KeptTables first third
+kept_trans f g =
+    record {
+      variables = g.variables ∙ f.variables;
+      parents = g.parents ∙ f.parents;
+      masks = g.masks ∙ f.masks;
+    }
+
+pub kept_worked : {work : Work} {memo : Memo} → SameMoment work.memo memo → KeptTables work (record work { memo = memo })
+kept_worked same = record { variables = same.variables; parents = refl; masks = refl }
+
+pub kept_passed : (looping : Bool) (outcome : Outcome) {work : Work}
+    → KeptTables work (passed_by looping outcome work)
+kept_passed true Finished = record { variables = refl; parents = refl; masks = refl }
+kept_passed true Stays = kept_refl
+kept_passed false Finished = kept_refl
+kept_passed false Stays = kept_refl
+
+-- ---- what holds at each place
+
+module _ {P : Program} {marks counts : List ℕ} {work : Work} (w : Walking P marks counts work) where
   pub walking_tallied : Tallied marks work
-  walking_tallied =
+  walking_tallied = record { marks_fit = omega (arith, w.accepted.sizes.nodes_fit); tally = w.tally }
+
+  pub walking_worked : {memo : Memo} → Known P.exprs memo → Walking P marks counts (record work { memo = memo })
+  walking_worked known =
       record {
-        size = w.memo.size;
-        marks_fit = omega (arith, w.marks_fit, w.walkable.nodes_fit);
+        accepted = w.accepted;
+        marks_fit = w.marks_fit;
+        counts_fit = w.counts_fit;
+        known = known;
         tally = w.tally;
       }
 
-  pub walking_worked : (work' : List ℕ) → Memo exprs values work' → KeptFrom 2304 work work'
-      → Walking exprs nodes values marks counts work'
-  walking_worked work' memo kept =
-      record {
-        walkable = w.walkable;
-        marks_fit = w.marks_fit;
-        counts_fit = w.counts_fit;
-        memo = memo;
-        tally = kept 2305 (omega arith) ∙ w.tally;
-      }
-
-  pub walking_counted : (counts' : List ℕ) → length counts' ≡ length counts
-      → Walking exprs nodes values marks counts' work
+  pub walking_counted : (counts' : List ℕ) → length counts' ≡ length counts → Walking P marks counts' work
   walking_counted counts' same =
       record {
-        walkable = w.walkable;
+        accepted = w.accepted;
         marks_fit = w.marks_fit;
         counts_fit = same ∙ w.counts_fit;
-        memo = w.memo;
+        known = w.known;
         tally = w.tally;
       }
 
-  pub walking_marked : (i : ℕ) → Walking exprs nodes values (set marks i 1) counts
-      (set work 2305 (mark_count (set marks i 1)))
+  pub walking_marked : (i : ℕ)
+      → Walking P (set marks i 1) counts (record work { tally = mark_count (set marks i 1) })
   walking_marked i =
       record {
-        walkable = w.walkable;
+        accepted = w.accepted;
         marks_fit = length-set marks i 1 ∙ w.marks_fit;
         counts_fit = w.counts_fit;
-        memo = memo-set exprs values work 2305 _ (omega arith) w.memo;
-        tally = tally-set work _ w.memo.size;
+        known = w.known;
+        tally = refl;
       }
 
-  pub walking_looped : (looped : Bool) → Walking exprs nodes values marks counts (cond looped (set work 2306 1) work)
-  walking_looped false = w
-  walking_looped true =
+  pub walking_passed : (looping : Bool) (outcome : Outcome) → Walking P marks counts (passed_by looping outcome work)
+  walking_passed true Finished =
       record {
-        walkable = w.walkable;
+        accepted = w.accepted;
         marks_fit = w.marks_fit;
         counts_fit = w.counts_fit;
-        memo = memo-set exprs values work 2306 1 (omega arith) w.memo;
-        tally = get_or-set_other work 2306 2305 1 0 (λ e. omega arith) ∙ w.tally;
+        known = w.known;
+        tally = w.tally;
       }
+  walking_passed true Stays = w
+  walking_passed false Finished = w
+  walking_passed false Stays = w

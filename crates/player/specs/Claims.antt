@@ -1,60 +1,71 @@
--- What a cycle claims, in one list, `claims`. From 0 on the stamp of each channel that an IN claimed, from 256 on of each
--- that an OUT claimed, from 512 on of each variable that a store claimed; 768 past a stamp the node that claimed it. From
--- 1536 on the variable of each store of the cycle, from 2560 on the value for it, and once the stores are made, the value
--- before. At 3584 the stamp of the cycle, and at 3585 the number of its stores. A slot is claimed in the cycle whose stamp
--- it has; stamps rise from cycle to cycle, so that no slot is ever cleared.
-use Rattle.std.specs.Prelude.{◌≡◌, Bool, true, cond, not, ◌&&◌, ◌||◌, ◌≢◌, List, [], ◌∷◌, ℕ, suc, ◌+◌, ◌≤◌, ◌<◌, eqb, length, get_or}
+-- What a cycle claims: a slot for each channel that an IN claims, for each that an OUT claims, and for each variable that a
+-- store claims. A slot is claimed in the cycle whose stamp it has; stamps rise from cycle to cycle, so that no slot is ever
+-- cleared.
+use Rattle.std.specs.Prelude.{◌≡◌, Bool, cond, not, ◌&&◌, ◌||◌, List, [], ◌∷◌, ℕ, suc, ◌≤◌, ◌<◌, eqb, length, get_or, set}
 use Rattle.semantics.specs.Numbers.{filter}
+use Rattle.player.specs.declared.claims.Slot.{Slot}
+use Rattle.player.specs.declared.claims.Slots.{Slots}
+use Rattle.player.specs.declared.claims.Claims.{Claims as CodeClaims}
 
 -- One more than the first number, or 0 where there is none.
 abbrev pub rank_of : List ℕ → ℕ
 rank_of [] = 0
 rank_of (x ∷ xs) = suc x
 
--- The rank that a slot of a part has in this cycle: one more than the node that claimed it, or 0.
-abbrev pub rank_in : List ℕ → ℕ → ℕ → ℕ
-rank_in claims part slot =
-    cond (eqb (get_or claims (part + slot) 0) (get_or claims 3584 0)) (suc (get_or claims (768 + part + slot) 0)) 0
+abbrev pub slot_at : Slots → ℕ → Slot
+slot_at s slot = get_or s.slots slot (record { stamp = 0; node = 0 })
+
+-- The rank that a slot has in the cycle of a stamp: one more than the node that claimed it, or 0.
+abbrev pub rank_in : Slots → ℕ → ℕ → ℕ
+rank_in s stamp slot = cond (eqb (slot_at s slot).stamp stamp) (suc (slot_at s slot).node) 0
 
 -- No slot has a stamp above n.
-pub record Aged (claims : List ℕ) (n : ℕ) : Type 0 where
-  pub size : length claims ≡ 3586
-  pub stamps : (j : ℕ) → j < 768 → get_or claims j 0 ≤ n
+pub record UpTo (s : Slots) (n : ℕ) : Type 0 where
+  pub size : length s.slots ≡ 256
+  pub stamps : (j : ℕ) → j < 256 → (slot_at s j).stamp ≤ n
+
+pub record Aged (claims : CodeClaims) (n : ℕ) : Type 0 where
+  pub inputs : UpTo claims.inputs n
+  pub outputs : UpTo claims.outputs n
+  pub writers : UpTo claims.writers n
+
+-- No slot is claimed in the cycle of a stamp.
+pub record Unclaimed (s : Slots) (stamp : ℕ) : Type 0 where
+  pub size : length s.slots ≡ 256
+  pub stamps : (j : ℕ) → j < 256 → (slot_at s j).stamp < stamp
 
 -- In this cycle no slot is claimed yet.
-pub record Fresh (claims : List ℕ) : Type 0 where
-  pub size : length claims ≡ 3586
-  pub stamps : (j : ℕ) → j < 768 → get_or claims j 0 < get_or claims 3584 0
+pub record Fresh (claims : CodeClaims) : Type 0 where
+  pub inputs : Unclaimed claims.inputs claims.stamp
+  pub outputs : Unclaimed claims.outputs claims.stamp
+  pub writers : Unclaimed claims.writers claims.stamp
 
--- Whether a slot of a part was free; then node i has claimed it.
-pub record Claim (before after : List ℕ) (part slot i : ℕ) (free : Bool) : Type 0 where
-  pub size : length after ≡ length before
-  pub was_free : free ≡ eqb (rank_in before part slot) 0
-  pub is_claimed : free ≡ true → rank_in after part slot ≡ suc i
-  pub stamped : get_or after (part + slot) 0 ≡ get_or before 3584 0
-  pub rest : (j : ℕ) → j ≢ part + slot → j ≢ 768 + part + slot → get_or after j 0 ≡ get_or before j 0
+-- Whether a slot was free; then node i has claimed it.
+pub record Claim (before after : Slots) (stamp slot i : ℕ) (free : Bool) : Type 0 where
+  pub was_free : free ≡ eqb (rank_in before stamp slot) 0
+  pub written : after.slots ≡ cond free (set before.slots slot (record { stamp = stamp; node = i })) before.slots
 
--- A node that passes the test `uses` wants the slot `key` of a part.
-module _ (uses : ℕ → Bool) (key : ℕ → ℕ) (part : ℕ) where
+-- A node that passes the test `uses` wants the slot `key`.
+module _ (uses : ℕ → Bool) (key : ℕ → ℕ) where
   -- Node i wants no slot, or one that no node has claimed.
-  abbrev pub is_free : List ℕ → ℕ → Bool
-  is_free claims i = not (uses i) || eqb (rank_in claims part (key i)) 0
+  abbrev pub is_free : Slots → ℕ → ℕ → Bool
+  is_free s stamp i = not (uses i) || eqb (rank_in s stamp (key i)) 0
 
-  -- The ranks of the part when node i has claimed what it wants.
-  abbrev pub Claimed : List ℕ → List ℕ → ℕ → Type 0
-  Claimed before after i =
+  -- The ranks when node i has claimed what it wants.
+  abbrev pub Claimed : Slots → Slots → ℕ → ℕ → Type 0
+  Claimed before after stamp i =
       (slot : ℕ) → slot < 256
-      → rank_in after part slot ≡ cond (uses i && eqb (key i) slot) (suc i) (rank_in before part slot)
+      → rank_in after stamp slot ≡ cond (uses i && eqb (key i) slot) (suc i) (rank_in before stamp slot)
 
   -- Node i wants the slot.
   abbrev pub wants : ℕ → ℕ → Bool
   wants slot i = uses i && eqb (key i) slot
 
   -- Of these entries at most one wants the slot, and it has its rank.
-  pub record Slot (claims entries : List ℕ) (slot : ℕ) : Type 0 where
-    pub rank : slot < 256 → rank_in claims part slot ≡ rank_of (filter (wants slot) entries)
+  pub record Wanted (s : Slots) (stamp : ℕ) (entries : List ℕ) (slot : ℕ) : Type 0 where
+    pub rank : slot < 256 → rank_in s stamp slot ≡ rank_of (filter (wants slot) entries)
     pub single : length (filter (wants slot) entries) ≤ 1
 
   -- These entries have claimed what they want.
-  abbrev pub Claims : List ℕ → List ℕ → Type 0
-  Claims entries claims = (slot : ℕ) → Slot claims entries slot
+  abbrev pub Claims : List ℕ → Slots → ℕ → Type 0
+  Claims entries s stamp = (slot : ℕ) → Wanted s stamp entries slot

@@ -1,5 +1,5 @@
 -- One cycle in code: from an accepted program and a state that questions 5 and 6 let by, to the rules' outcome.
-use Rattle.std.specs.Prelude.{◌≡◌, true, cond, List, [], ◌∷◌, ◌≢◌, ℕ, length, get_or, replicate}
+use Rattle.std.specs.Prelude.{◌≡◌, true, false, cond, List, [], ◌∷◌, ◌≢◌, ℕ, length, replicate, Result, ⊤}
 use Rattle.semantics.specs.Program.{Program}
 use Rattle.semantics.specs.Questions.{Question, ask, first_no}
 use Rattle.semantics.specs.Check.{check_number}
@@ -9,11 +9,15 @@ use Rattle.semantics.specs.Walk.{Walk}
 use Rattle.semantics.specs.Cycle.{are_active, answered, new_values, walked, cycle}
 use Rattle.semantics.specs.Run.{next_entries}
 use Rattle.semantics.specs.Facts.{Accepted, LengthsFit, Ready}
-use Rattle.program.specs.Answer.{program_of}
+use Rattle.program.specs.declared.refusal.Refusal.{Refusal}
+use Rattle.program.specs.Answer.{number_of, item_of}
+use Rattle.player.specs.declared.claims.Claims.{Claims}
+use Rattle.player.specs.declared.work.Work.{Work}
+use Rattle.player.specs.declared.stores.Stores.{Stores}
 use Rattle.player.specs.Begin.{state_of}
-use Rattle.player.specs.Work.{Memo, KeptFrom, Climbing, Masks}
+use Rattle.player.specs.Memo.{Known, Holds}
+use Rattle.player.specs.Work.{Climbing, Masks}
 use Rattle.player.specs.Claims.{Aged}
-use Rattle.player.specs.Channels.{CycleOf, Paired}
 use Rattle.player.specs.Stores.{HeldFit, Pending, taken_back}
 
 pub record Runnable (P : Program) (s : State) : Type 0 where
@@ -21,46 +25,25 @@ pub record Runnable (P : Program) (s : State) : Type 0 where
   pub ready : Ready P s
 
 -- What a run hands from cycle to cycle in `work`.
-pub record Carried (exprs nodes widths values marks work : List ℕ) : Type 0 where
-  pub memo : Memo exprs values work
-  pub tally : get_or work 2305 0 ≡ mark_count marks
-  pub climbing : Climbing nodes work
-  pub masks : Masks widths work
-  pub unmet : get_or work 2306 0 ≡ 0
+pub record Carried (P : Program) (values marks : List ℕ) (work : Work) : Type 0 where
+  pub known : Known P.exprs work.memo
+  pub holds : Holds values work.memo
+  pub tally : work.tally ≡ mark_count marks
+  pub climbing : Climbing P.nodes work
+  pub masks : Masks P.widths work
+  pub unmet : work.looped ≡ false
 
 -- One cycle by the next entries of the book: the rules' outcome, and where it is refused, the state as it was.
 pub record CycleAnswer (P : Program) (s : State) (book : List ℕ) (number : ℕ) (s' : State) : Type 0 where
   pub outcome : cycle P s (next_entries s book) ≡ answered number s'
   pub kept : number ≢ 0 → s' ≡ s
 
--- A cycle of the program with these expressions and nodes, from the state with these lists, by these entries, as many as
--- there are marks.
-pub record CycleFrom (exprs nodes values marks counts entries : List ℕ) : Type 0 where
-  pub widths : List ℕ
-  pub variables : ℕ
-  pub channels : ℕ
-  pub accepted : Accepted (program_of exprs nodes widths variables channels)
-  pub fit : LengthsFit (program_of exprs nodes widths variables channels) (state_of values marks counts)
-  pub formed : well_formed (program_of exprs nodes widths variables channels) (state_of values marks counts) ≡ true
-  pub as_many : length entries ≡ mark_count marks
-
-abbrev pub program_from : {exprs nodes values marks counts entries : List ℕ}
-    → CycleFrom exprs nodes values marks counts entries → Program
-program_from {exprs} {nodes} x = program_of exprs nodes x.widths x.variables x.channels
-
--- The same, once question 7 is answered yes.
-abbrev pub cycle_of : {exprs nodes values marks counts entries : List ℕ}
-    → CycleFrom exprs nodes values marks counts entries → are_active marks entries ≡ true → CycleOf nodes entries
-cycle_of {exprs = exprs} {marks = marks} x active = record {
-  exprs = exprs;
-  widths = x.widths;
-  variables = x.variables;
-  channels = x.channels;
-  marks = marks;
-  accepted = x.accepted;
-  marks_fit = x.fit.marks;
-  entries_active = active;
-}
+-- A cycle from a state by these entries, as many as there are marks.
+pub record CycleFrom (P : Program) (s : State) (entries : List ℕ) : Type 0 where
+  pub accepted : Accepted P
+  pub fit : LengthsFit P s
+  pub formed : well_formed P s ≡ true
+  pub as_many : length entries ≡ mark_count s.marks
 
 -- Questions 7 to 9.
 abbrev pub first_questions : Program → List ℕ → List ℕ → List Question
@@ -68,16 +51,18 @@ first_questions P marks entries =
     ask 7 (are_active marks entries) ∷ ask 8 (channels_free P marks) ∷ ask 9 (targets_apart P marks) ∷ []
 
 -- Questions 7 to 9 are answered yes, and the right sides are worked.
-pub record Started (exprs nodes values marks counts entries work claims : List ℕ) : Type 0 where
-  pub from : CycleFrom exprs nodes values marks counts entries
-  pub active : are_active marks entries ≡ true
-  pub free : channels_free (program_from from) marks ≡ true
-  pub apart : targets_apart (program_from from) marks ≡ true
-  pub pending : Pending (cycle_of from active) values claims
-  pub memo : Memo exprs values work
-  pub climbing : Climbing nodes work
-  pub masks : Masks from.widths work
-  pub unmet : get_or work 2306 0 ≡ 0
+pub record Started (P : Program) (s : State) (entries : List ℕ) (work : Work) (claims : Claims) (stores : Stores) : Type 0
+  where
+    pub from : CycleFrom P s entries
+    pub active : are_active s.marks entries ≡ true
+    pub free : channels_free P s.marks ≡ true
+    pub apart : targets_apart P s.marks ≡ true
+    pub pending : Pending P s.marks entries s.values claims stores
+    pub known : Known P.exprs work.memo
+    pub holds : Holds s.values work.memo
+    pub climbing : Climbing P.nodes work
+    pub masks : Masks P.widths work
+    pub unmet : work.looped ≡ false
 
 -- What the walks of a cycle leave.
 abbrev pub walk_after : Program → State → List ℕ → Walk
@@ -91,38 +76,35 @@ pub record Advanced (P : Program) (s : State) (entries : List ℕ) (number : ℕ
       ≡ cond (walk_after P s entries).looped s
       (state_of (new_values P s entries) (walk_after P s entries).marks (walk_after P s entries).counts)
 
--- ---- what the functions of a cycle promise
+-- ---- what the functions of a cycle promise; no item comes with questions 7 to 10
 
-pub record AskAnswer {exprs nodes values marks counts entries : List ℕ}
-    (x : CycleFrom exprs nodes values marks counts entries) (claims₀ : List ℕ) (number : ℕ) (marks' work claims : List ℕ)
+pub record AskAnswer (P : Program) (s : State) (entries : List ℕ) (stamp : ℕ) (answer : Result ⊤ Refusal) (marks' : List ℕ)
+    (work : Work) (claims : Claims) (stores : Stores) : Type 0 where
+  pub asked : number_of answer ≡ first_no (first_questions P s.marks entries)
+  pub no_item : item_of answer ≡ 0
+  pub kept : number_of answer ≢ 0 → marks' ≡ s.marks
+  pub cleared : number_of answer ≡ 0 → marks' ≡ replicate (length s.marks) 0
+  pub started : number_of answer ≡ 0 → Started P s entries work claims stores
+  pub aged : number_of answer ≡ 0 → Aged claims stamp
+
+pub record StoreAnswer (P : Program) (s : State) (entries : List ℕ) (before : Work) (values' : List ℕ) (work : Work)
+    (stores : Stores) : Type 0 where
+  pub right : values' ≡ new_values P s entries
+  pub known : Known P.exprs work.memo
+  pub holds : Holds values' work.memo
+  pub kept : work ≡ record before { memo = work.memo }
+  pub fit : HeldFit values' stores
+  pub back : taken_back stores.list stores.count values' ≡ s.values
+
+pub record AdvanceAnswer (P : Program) (s : State) (entries : List ℕ) (answer : Result ⊤ Refusal) (s' : State) (work : Work)
     : Type 0 where
-  pub asked : number ≡ first_no (first_questions (program_from x) marks entries)
-  pub kept : number ≢ 0 → marks' ≡ marks
-  pub cleared : number ≡ 0 → marks' ≡ replicate (length marks) 0
-  pub started : number ≡ 0 → Started exprs nodes values marks counts entries work claims
-  pub same : (z : number ≡ 0) → (started z).from ≡ x
-  pub aged : number ≡ 0 → Aged claims (get_or claims₀ 3584 0)
+  pub advanced : Advanced P s entries (number_of answer) s'
+  pub no_item : item_of answer ≡ 0
+  pub carried : number_of answer ≡ 0 → Carried P s'.values s'.marks work
 
-pub record StoreAnswer {exprs nodes values marks counts entries before claims₀ : List ℕ}
-    (x : Started exprs nodes values marks counts entries before claims₀) (values' work claims : List ℕ) : Type 0 where
-  pub right : values' ≡ new_values (program_from x.from) (state_of values marks counts) entries
-  pub memo : Memo exprs values' work
-  pub kept : KeptFrom 2305 before work
-  pub paired : Paired (cycle_of x.from x.active) claims
-  pub fit : HeldFit values' claims
-  pub back : taken_back claims (get_or claims 3585 0) values' ≡ values
-  pub aged : (n : ℕ) → Aged claims₀ n → Aged claims n
-
-pub record AdvanceAnswer {exprs nodes values marks counts entries before claims₀ : List ℕ}
-    (x : Started exprs nodes values marks counts entries before claims₀) (number : ℕ)
-    (values' marks' counts' work claims : List ℕ) : Type 0 where
-  pub advanced : Advanced (program_from x.from) (state_of values marks counts) entries number
-      (state_of values' marks' counts')
-  pub carried : number ≡ 0 → Carried exprs nodes x.from.widths values' marks' work
-  pub aged : (n : ℕ) → Aged claims₀ n → Aged claims n
-
-pub record WorkedCycle (P : Program) (s : State) (book claims₀ : List ℕ) (number : ℕ) (s' : State) (work claims : List ℕ)
-    : Type 0 where
-  pub answer : CycleAnswer P s book number s'
-  pub carried : number ≡ 0 → Carried P.exprs P.nodes P.widths s'.values s'.marks work
-  pub aged : number ≡ 0 → Aged claims (get_or claims₀ 3584 0)
+pub record WorkedCycle (P : Program) (s : State) (book : List ℕ) (stamp : ℕ) (r : Result ⊤ Refusal) (s' : State)
+    (work : Work) (claims : Claims) : Type 0 where
+  pub answer : CycleAnswer P s book (number_of r) s'
+  pub no_item : item_of r ≡ 0
+  pub carried : number_of r ≡ 0 → Carried P s'.values s'.marks work
+  pub aged : number_of r ≡ 0 → Aged claims stamp

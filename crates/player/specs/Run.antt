@@ -1,8 +1,23 @@
 -- What run promises.
-use Rattle.std.specs.Prelude.{◌≡◌, List, ℕ}
+use Rattle.std.specs.Prelude.{◌≡◌, List, ℕ, Result, Ok, Err}
 use Rattle.semantics.specs.Program.{Program}
 use Rattle.semantics.specs.State.{State}
 use Rattle.semantics.specs.Calls.{run_answer}
+use Rattle.program.specs.Refusals.{question_number, fault_in}
+use Rattle.player.specs.declared.Stopped.{Stopped}
+
+-- The number, the item and the cycles worked that a run gives.
+abbrev pub number_of_run : Result ℕ Stopped → ℕ
+number_of_run (Ok _) = 0
+number_of_run (Err stopped) = question_number stopped.refusal
+
+abbrev pub item_of_run : Result ℕ Stopped → ℕ
+item_of_run (Ok _) = 0
+item_of_run (Err stopped) = fault_in stopped.refusal
+
+abbrev pub worked_by : Result ℕ Stopped → ℕ
+worked_by (Ok worked) = worked
+worked_by (Err stopped) = stopped.worked
 
 -- Run on the state s, with so many cycles asked, by the book: the rules' number, item and cycles worked, and every
 -- element of the three lists as they are left, s'.

@@ -1,101 +1,130 @@
--- The rules' walk as the code holds it: marks and counts in lent lists, the flag in `work`, the outcome of entering as a
--- number, 0 for finished and 1 for stays.
-use Rattle.std.specs.Prelude.{◌≡◌, Bool, cond, not, ◌≢◌, List, ℕ, ◌+◌, ◌-◌, ◌*◌, ◌≤◌, ◌<◌, eqb, length, get_or, set}
-use Rattle.semantics.specs.Program.{expr_count, node_count, end_at, a_at}
-use Rattle.semantics.specs.Expressions.{expr_values}
+-- The rules' walk as the code holds it: marks and counts in lent lists, the flag in `work`.
+use Rattle.std.specs.Prelude.{◌≡◌, Bool, true, false, ◌⊎◌, cond, not, List, ℕ, Option, Some, None, MatchOption, IfSome, ◌+◌, ◌-◌, ◌*◌, ◌<◌, eqb, length, get_or, set}
+use Rattle.semantics.specs.Program.{Program, Kind, node_count, kind_at, end_at}
+use Rattle.semantics.specs.Program.Kind.{SEQ, PAR, IF, WHL, LEAF, UNKNOWN}
 use Rattle.semantics.specs.State.{mark_count}
 use Rattle.semantics.specs.Walk.{Walk, Entered, loop_if_finished, enter, leave}
 use Rattle.semantics.specs.Walk.Entered.{finished, stays}
-use Rattle.semantics.specs.Facts.{NodesOk, statement_at}
-use Rattle.player.specs.Work.{Formulas, Memo, KeptFrom, met}
+use Rattle.semantics.specs.Facts.{Accepted, statement_at}
+use Rattle.player.specs.declared.memo.Memo.{Memo}
+use Rattle.player.specs.declared.work.Work.{Work}
+use Rattle.player.specs.declared.outcome.Outcome.{Outcome}
+use Rattle.player.specs.declared.outcome.Outcome.TheVariants.{Finished, Stays}
+use Rattle.player.specs.Memo.{Known, value_of}
+use Rattle.player.specs.Work.{KeptTables}
 
 abbrev pub walk : List ℕ → List ℕ → Bool → Walk
 walk marks counts looped = record { marks = marks; counts = counts; looped = looped }
 
-abbrev pub walk_in : List ℕ → List ℕ → List ℕ → Walk
-walk_in marks counts work = walk marks counts (met work)
+abbrev pub walk_in : List ℕ → List ℕ → Work → Walk
+walk_in marks counts work = walk marks counts work.looped
 
-unfoldable pub entered : ℕ → Walk → Entered
-entered outcome w = cond (eqb outcome 0) (finished w) (stays w)
+abbrev pub entered : Outcome → Walk → Entered
+entered Finished w = finished w
+entered Stays w = stays w
+
+-- Node i, where the outcome is that it finished.
+abbrev pub if_finished : Outcome → ℕ → Option ℕ
+if_finished Finished i = Some i
+if_finished Stays i = None
 
 -- Whether expression e is true as a condition, in these values of the variables.
 abbrev pub holds_in : List ℕ → List ℕ → ℕ → Bool
-holds_in exprs values e = not (eqb (get_or (expr_values exprs values) e 0) 0)
+holds_in exprs values e = not (eqb (value_of exprs values e) 0)
 
--- The kind's number of node i.
-abbrev pub kind_word : List ℕ → ℕ → ℕ
-kind_word nodes i = get_or nodes (5 * i) 0
+-- Whether it is in the values of a memo.
+abbrev pub holds_now : Program → Memo → ℕ → Bool
+holds_now P memo = holds_in P.exprs memo.variables
 
 -- Thread counts with that of node h lowered by 1; a count of 0 stays.
 abbrev pub lowered : List ℕ → ℕ → List ℕ
 lowered counts h = set counts h (get_or counts h 0 - 1)
 
--- What a walk asks of the program.
-pub record Walkable (exprs nodes values : List ℕ) : Type 0 where
-  pub formulas : Formulas exprs values
-  pub nodes_ok : NodesOk nodes
-  pub nodes_fit : node_count nodes ≤ 1024
-  pub conditions : (i : ℕ) → i < node_count nodes → 6 ≤ kind_word nodes i → kind_word nodes i ≤ 7
-      → a_at nodes i < expr_count exprs
+-- A PAR is finished at count 0.
+abbrev pub outcome_at : List ℕ → ℕ → Outcome
+outcome_at counts h = cond (eqb (get_or counts h 0) 0) Finished Stays
 
 -- What holds at each place of a walk.
-pub record Walking (exprs nodes values marks counts work : List ℕ) : Type 0 where
-  pub walkable : Walkable exprs nodes values
-  pub marks_fit : length marks ≡ node_count nodes
-  pub counts_fit : length counts ≡ node_count nodes
-  pub memo : Memo exprs values work
-  pub tally : get_or work 2305 0 ≡ mark_count marks
+pub record Walking (P : Program) (marks counts : List ℕ) (work : Work) : Type 0 where
+  pub accepted : Accepted P
+  pub marks_fit : length marks ≡ node_count P.nodes
+  pub counts_fit : length counts ≡ node_count P.nodes
+  pub known : Known P.exprs work.memo
+  pub tally : work.tally ≡ mark_count marks
 
 -- ---- what the code of a walk promises, where `before` is `work` at its start
 
+-- What entering node i comes to in the rules, with conditions read in the values of `work`.
+abbrev pub entering : Program → List ℕ → List ℕ → Work → ℕ → Entered
+entering P marks counts work i = enter (holds_now P work.memo) (statement_at P.nodes i) (walk_in marks counts work)
+
 -- The rule enters with this outcome and leaves these lists.
-pub record Enters (exprs nodes values before : List ℕ) (rule : Entered) (outcome : ℕ) (marks counts work : List ℕ)
+pub record Enters (P : Program) (before : Work) (rule : Entered) (outcome : Outcome) (marks counts : List ℕ) (work : Work)
     : Type 0 where
   pub right : rule ≡ entered outcome (walk_in marks counts work)
-  pub range : outcome ≤ 1
-  pub walking : Walking exprs nodes values marks counts work
-  pub kept : KeptFrom 2307 before work
+  pub walking : Walking P marks counts work
+  pub kept : KeptTables before work
 
 -- The rule leaves these lists.
-pub record Walks (exprs nodes values before : List ℕ) (rule : Walk) (marks counts work : List ℕ) : Type 0 where
+pub record Walks (P : Program) (before : Work) (rule : Walk) (marks counts : List ℕ) (work : Work) : Type 0 where
   pub right : rule ≡ walk_in marks counts work
-  pub walking : Walking exprs nodes values marks counts work
-  pub kept : KeptFrom 2307 before work
+  pub walking : Walking P marks counts work
+  pub kept : KeptTables before work
 
 -- The children of SEQ h but for the last were entered in turn: one stays, or all finish, and entering the SEQ goes on as
 -- entering its last child.
-pub record ButLast (exprs nodes values before : List ℕ) (h : ℕ) (rule : Entered) (outcome last : ℕ)
-    (marks counts work : List ℕ) : Type 0 where
-  pub stopped : outcome ≢ 0 → rule ≡ entered outcome (walk_in marks counts work)
-  pub goes_on : outcome ≡ 0
-      → rule ≡ enter (holds_in exprs values) (statement_at nodes last) (walk_in marks counts work)
-  pub range : outcome ≤ 1
-  pub after : h < last
-  pub is_node : last < node_count nodes
-  pub walking : Walking exprs nodes values marks counts work
-  pub kept : KeptFrom 2307 before work
+pub record ButLast (P : Program) (before : Work) (h : ℕ) (rule : Entered) (last : Option ℕ) (marks counts : List ℕ)
+    (work : Work) : Type 0 where
+  pub right : MatchOption last (rule ≡ stays (walk_in marks counts work))
+      (λ (i : ℕ). (rule ≡ enter (holds_now P before.memo) (statement_at P.nodes i) (walk_in marks counts work))
+      × (h < i) × (i < node_count P.nodes))
+  pub walking : Walking P marks counts work
+  pub kept : KeptTables before work
 
 -- Where a WHL was passed, finishing is a zero-time loop.
 unfoldable pub passed : Bool → Entered → Entered
 passed looping r = cond looping (loop_if_finished r) r
 
--- Node i was left: the next turn leaves node r, or the climb is over, where r is 0.
-pub record Turned (exprs nodes values before : List ℕ) (i : ℕ) (w : Walk) (r : ℕ) (marks counts work : List ℕ)
-    : Type 0 where
-  pub right : leave (holds_in exprs values) nodes i w
-      ≡ leave (holds_in exprs values) nodes r (walk_in marks counts work)
-  pub is_node : r < node_count nodes
-  pub falls : 2048 * (1024 - end_at nodes r) + r < 2048 * (1024 - end_at nodes i) + i
-  pub walking : Walking exprs nodes values marks counts work
-  pub kept : KeptFrom 2307 before work
+-- Leaving goes on with a node, or is over.
+abbrev pub leave_next : (ℕ → Bool) → List ℕ → Option ℕ → Walk → Walk
+leave_next holds nodes None w = w
+leave_next holds nodes (Some i) w = leave holds nodes i w
 
--- Node i, an IF or a WHL, enters child r, or none where r is 0.
-pub record Chosen (exprs nodes values before : List ℕ) (i : ℕ) (marks counts : List ℕ) (r : ℕ) (work : List ℕ) : Type 0
-  where
-    pub none : r ≡ 0 → (w : Walk) → enter (holds_in exprs values) (statement_at nodes i) w ≡ finished w
-    pub child : r ≢ 0 → (w : Walk) → enter (holds_in exprs values) (statement_at nodes i) w
-        ≡ passed (eqb (kind_word nodes i) 7) (enter (holds_in exprs values) (statement_at nodes r) w)
-    pub after : r ≢ 0 → i < r
-    pub is_node : r < node_count nodes
-    pub walking : Walking exprs nodes values marks counts work
-    pub kept : KeptFrom 2304 before work
+-- What falls from turn to turn of a climb.
+abbrev pub height : List ℕ → ℕ → ℕ
+height nodes i = 2048 * (1024 - end_at nodes i) + i
+
+-- Node i was left: the next turn leaves node r, or the climb is over.
+pub record Turned (P : Program) (before : Work) (i : ℕ) (w : Walk) (r : Option ℕ) (marks counts : List ℕ) (work : Work)
+    : Type 0 where
+  pub right : leave (holds_now P before.memo) P.nodes i w
+      ≡ leave_next (holds_now P before.memo) P.nodes r (walk_in marks counts work)
+  pub next : IfSome r (λ (n : ℕ). (n < node_count P.nodes) × (height P.nodes n < height P.nodes i))
+  pub walking : Walking P marks counts work
+  pub kept : KeptTables before work
+
+-- A WHL, which makes finishing at once a zero-time loop.
+abbrev pub is_whl : Kind → Bool
+is_whl SEQ = false
+is_whl PAR = false
+is_whl IF = false
+is_whl WHL = true
+is_whl (LEAF l) = false
+is_whl UNKNOWN = false
+
+-- What a walk notes where it passed a WHL and the outcome is that it finished: a zero-time loop.
+abbrev pub passed_by : Bool → Outcome → Work → Work
+passed_by looping Finished work = cond looping (record work { looped = true }) work
+passed_by looping Stays work = work
+
+-- Node i, an IF or a WHL, enters child r, or none.
+abbrev pub Chosen : Program → Memo → ℕ → Option ℕ → Type 0
+Chosen P memo i r = MatchOption r
+    ((w : Walk) → enter (holds_now P memo) (statement_at P.nodes i) w ≡ finished w)
+    (λ (child : ℕ). ((w : Walk) → enter (holds_now P memo) (statement_at P.nodes i) w
+    ≡ passed (is_whl (kind_at P.nodes i)) (enter (holds_now P memo) (statement_at P.nodes child) w))
+    × (i < child) × (child < node_count P.nodes))
+
+-- A node of a kind that branches on a condition.
+abbrev pub Branches : List ℕ → ℕ → Type 0
+Branches nodes i = (kind_at nodes i ≡ IF) ⊎ (kind_at nodes i ≡ WHL)

@@ -1,116 +1,93 @@
 // Channels: question 8, whether a channel has two marked IN or two marked OUT, and which leaves wait.
-ghost use Rattle.std.specs.Prelude.{◌≡◌, true, not, List, ℕ, ◌+◌, ◌<◌, eqb, length, get_or};
+ghost use Rattle.std.specs.Prelude.{◌≡◌, true, not, ◌<◌, eqb, length};
 ghost use Rattle.semantics.specs.Program.{node_count, a_at};
-ghost use Rattle.semantics.specs.Completion.{is_in, is_out, waits};
-ghost use Rattle.semantics.specs.Facts.{Accepted};
-ghost use Rattle.program.specs.Answer.{program_of};
-ghost use Rattle.player.specs.Claims.{Claim, Fresh, rank_in};
-ghost use Rattle.player.specs.Channels.{PairedEntry, EntryPairing, CrossedTo, program, has_kind};
+ghost use Rattle.semantics.specs.Completion.{waits};
+ghost use Rattle.program.specs.Accepted.{accepted_in};
+ghost use Rattle.player.specs.Claims.{Fresh, rank_in, slot_at};
+ghost use Rattle.player.specs.Channels.{PairedEntry, EntryPairing, CrossedTo};
 
-use crate::claims::{CLAIMS, INPUTS, OUTPUTS};
-use crate::{claims, entries, records};
-use program::ChanId;
-use program::kinds::{IN, OUT};
+use crate::claims::Claims;
+use crate::{entries, records};
+use program::{Accepted, ChanId, Kind, Leaf};
 
 // The channel of an IN or OUT.
-pub fn channel_of(nodes: &[u16], i: u16) -> ChanId
-    requires { i < node_count nodes.now }
-    ensures { result.0 ≡ a_at nodes.now i }
+pub fn channel_of(program: &Accepted, i: u16) -> ChanId
+    requires { i < node_count (accepted_in program.now).nodes }
+    ensures { result.0 ≡ a_at (accepted_in program.now).nodes i }
 {
-    ChanId(records::a_of(nodes, i))
+    ChanId(records::node(program, i).a)
 }
 
 // Whether an IN, or an OUT, is marked on the channel.
-pub fn has_in(claims: &[u16; CLAIMS], channel: ChanId) -> bool
+fn has_in(claims: &Claims, channel: ChanId) -> bool
     requires { channel.0 < 256 }
-    ensures { result ≡ not (eqb (rank_in claims.now 0 channel.0) 0) }
+    ensures { result ≡ not (eqb (rank_in claims.now.inputs claims.now.stamp channel.0) 0) }
 {
-    claims::is_claimed(claims, INPUTS, channel.0)
+    claims.inputs.is_claimed(claims.stamp, channel.0)
 }
 
-pub fn has_out(claims: &[u16; CLAIMS], channel: ChanId) -> bool
+pub fn has_out(claims: &Claims, channel: ChanId) -> bool
     requires { channel.0 < 256 }
-    ensures { result ≡ not (eqb (rank_in claims.now 256 channel.0) 0) }
+    ensures { result ≡ not (eqb (rank_in claims.now.outputs claims.now.stamp channel.0) 0) }
 {
-    claims::is_claimed(claims, OUTPUTS, channel.0)
+    claims.outputs.is_claimed(claims.stamp, channel.0)
 }
 
 // The OUT that is marked on a channel that has one.
-pub fn sender(claims: &[u16; CLAIMS], channel: ChanId) -> u16
+pub fn sender(claims: &Claims, channel: ChanId) -> u16
     requires { channel.0 < 256 }
-    ensures { result ≡ get_or claims.now (1024 + channel.0) 0 }
+    ensures { result ≡ (slot_at claims.now.outputs channel.0).node }
 {
-    claims::claimant(claims, OUTPUTS, channel.0)
-}
-
-// Whether the channel was free for input, or for output; then node i claims it.
-fn claim_in(claims: &mut [u16; CLAIMS], channel: ChanId, i: u16) -> bool
-    requires { (channel.0 < 256) × (length claims.old ≡ 3586) }
-    ensures { Claim claims.old claims.new 0 channel.0 i result }
-{
-    claims::claim(claims, INPUTS, channel.0, i)
-}
-
-fn claim_out(claims: &mut [u16; CLAIMS], channel: ChanId, i: u16) -> bool
-    requires { (channel.0 < 256) × (length claims.old ≡ 3586) }
-    ensures { Claim claims.old claims.new 256 channel.0 i result }
-{
-    claims::claim(claims, OUTPUTS, channel.0, i)
+    claims.outputs.claimant(channel.0)
 }
 
 // Node i claims its channel, for input if it is an IN and for output if it is an OUT: whether it was free.
-fn pair_one(nodes: &[u16], i: u16, claims: &mut [u16; CLAIMS]) -> bool
-    requires i_bound { (i < node_count nodes.now) × (length claims.old ≡ 3586) }
-    requires i_bound_2 { has_kind nodes.now is_in i ≡ true → a_at nodes.now i < 256 }
-    requires i_bound_3 { has_kind nodes.now is_out i ≡ true → a_at nodes.now i < 256 }
-    ensures { EntryPairing nodes.now i result claims.old claims.new }
+#[tactic(auto, using(crate::proofs::EntryPairingLaws::nothing_paired))]
+fn pair_one(program: &Accepted, i: u16, claims: &mut Claims) -> bool
+    requires { i < node_count (accepted_in program.now).nodes }
+    ensures { EntryPairing (accepted_in program.now).nodes i result claims.old claims.new }
 {
-    match records::kind_of(nodes, i) {
-        IN => claim_in(claims, channel_of(nodes, i), i),
-        OUT => claim_out(claims, channel_of(nodes, i), i),
+    let channel = channel_of(program, i);
+    match records::kind(program, i) {
+        Kind::Leaf(Leaf::In) => claims.inputs.claim(claims.stamp, channel.0, i),
+        Kind::Leaf(Leaf::Out) => claims.outputs.claim(claims.stamp, channel.0, i),
         _ => true,
     }
 }
 
 // Questions 7 and 8 in one pass: each entry is crossed out of the marks and claims its channel, up to the first that has no
-// mark any more or finds its channel claimed. Gives the number of entries before it.
+// mark any more or finds its channel claimed: then the number of entries before it.
 pub fn pair_entries(
-    nodes: &[u16],
+    program: &Accepted,
     marks: &mut [u8],
     entries: &[u16],
-    claims: &mut [u16; CLAIMS],
-) -> usize
-    requires by_index { ((exprs : List ℕ) × (widths : List ℕ) × (vars : ℕ) × (chans : ℕ)
-        × Accepted (program_of exprs nodes.now widths vars chans))
-        × (length marks.old ≡ node_count nodes.now) }
+    claims: &mut Claims,
+) -> Result<(), usize>
+    requires marks_len { length marks.old ≡ node_count (accepted_in program.now).nodes }
     requires fresh { Fresh claims.old }
-    ensures { CrossedTo nodes.now entries.now marks.old claims.old result
-        marks.new claims.new }
+    ensures { CrossedTo (accepted_in program.now) entries.now marks.old claims.old result marks.new claims.new }
 {
-    let mut k: usize = 0;
-    while k < entries.len() {
-        let i = entries[k];
+    for (k, &i) in entries.iter().enumerate() {
         if !entries::is_marked(marks, i) {
-            return k;
+            return Err(k);
         }
-        if !pair_one(nodes, i, claims) {
-            return k;
+        if !pair_one(program, i, claims) {
+            return Err(k);
         }
         entries::cross(marks, i);
-        k += 1;
     }
-    k
+    Ok(())
 }
 
 // Whether node i, a marked one, waits: an IN with no OUT marked on its channel, or an OUT with no IN.
-pub fn waits(nodes: &[u16], claims: &[u16; CLAIMS], i: u16) -> bool
-    requires { PairedEntry nodes.now claims.now i }
-    ensures { (x : PairedEntry nodes.now claims.now i)
-        → result ≡ waits (program x.cycle) x.cycle.marks i }
+#[tactic(auto, using(crate::proofs::CycleLaws::entry_node, crate::proofs::PairingLaws::never_waits))]
+pub fn waits(program: &Accepted, claims: &Claims, i: u16) -> bool
+    requires { PairedEntry (accepted_in program.now) claims.now i }
+    ensures { (x : PairedEntry (accepted_in program.now) claims.now i) → result ≡ waits (accepted_in program.now) x.cycle.marks i }
 {
-    match records::kind_of(nodes, i) {
-        IN => !has_out(claims, channel_of(nodes, i)),
-        OUT => !has_in(claims, channel_of(nodes, i)),
+    match records::kind(program, i) {
+        Kind::Leaf(Leaf::In) => !has_out(claims, channel_of(program, i)),
+        Kind::Leaf(Leaf::Out) => !has_in(claims, channel_of(program, i)),
         _ => false,
     }
 }

@@ -1,54 +1,84 @@
-// The places of `claims`, what a cycle claims (specs/Claims.antt), and one claim.
-ghost use Rattle.std.specs.Prelude.{◌≡◌, not, ◌+◌, ◌≤◌, ◌<◌, eqb, length, get_or};
-ghost use Rattle.player.specs.Claims.{Claim, rank_in};
+// What a cycle claims: channels and variables, each by one node. A slot is claimed in the cycle whose stamp it has; stamps
+// rise from cycle to cycle, so that no slot is ever cleared.
+ghost use Rattle.std.specs.Prelude.{◌≡◌, not, ◌<◌, eqb};
 
-pub const INPUTS: usize = 0;
+// How many slots there are: as many as channels, and as many as variables.
+const SLOTS: usize = 256;
 
-pub const OUTPUTS: usize = 256;
+#[derive(Clone, Copy, Debug)]
+struct Slot {
+    stamp: u16,
+    node: u16,
+}
 
-pub const WRITERS: usize = 512;
+// The slots of what is claimed alike, by the numbers of the channels or of the variables.
+#[derive(Drop)]
+pub struct Slots {
+    slots: [Slot; SLOTS],
+}
 
-// From a stamp to the node that claimed its slot.
-const NODES: usize = 768;
+impl Slots {
+    ghost use Rattle.player.specs.Claims.{Claim, UpTo, rank_in, slot_at};
 
-pub const TARGETS: usize = 1536;
-
-pub const HELD: usize = 2560;
-
-pub const STAMP: usize = 3584;
-
-pub const STORES: usize = 3585;
-
-pub const CLAIMS: usize = 3586;
-
-// Whether the slot of a part was free; then node i claims it. A slot is a plain number, for channels and variables are
-// claimed alike; the functions that call this take a channel or a variable.
-pub fn claim(claims: &mut [u16; CLAIMS], part: usize, slot: u16, i: u16) -> bool
-    requires { (part ≤ 512) × (slot < 256) × (length claims.old ≡ 3586) }
-    ensures { Claim claims.old claims.new part slot i result }
-{
-    let at = part + (slot as usize);
-    if claims[at] == claims[STAMP] {
-        return false;
+    fn new() -> Slots
+        ensures { UpTo result 0 }
+    {
+        Slots {
+            slots: [Slot { stamp: 0, node: 0 }; SLOTS],
+        }
     }
-    let stamp = claims[STAMP];
-    claims[at] = stamp;
-    claims[NODES + part + (slot as usize)] = i;
-    true
+
+    // Whether the slot was free; then node i claims it.
+    pub fn claim(&mut self, stamp: u16, slot: u16, i: u16) -> bool
+        requires { slot < 256 }
+        ensures { Claim self.old self.new stamp slot i result }
+    {
+        let at = slot as usize;
+        if self.slots[at].stamp == stamp {
+            return false;
+        }
+        self.slots[at] = Slot { stamp, node: i };
+        true
+    }
+
+    // Whether the slot is claimed in the cycle of this stamp.
+    pub fn is_claimed(&self, stamp: u16, slot: u16) -> bool
+        requires { slot < 256 }
+        ensures { result ≡ not (eqb (rank_in self.now stamp slot) 0) }
+    {
+        self.slots[slot as usize].stamp == stamp
+    }
+
+    // The node that claimed the slot last.
+    pub fn claimant(&self, slot: u16) -> u16
+        requires { slot < 256 }
+        ensures { result ≡ (slot_at self.now slot).node }
+    {
+        self.slots[slot as usize].node
+    }
 }
 
-// Whether the slot of a part is claimed in this cycle.
-pub fn is_claimed(claims: &[u16; CLAIMS], part: usize, slot: u16) -> bool
-    requires { (part ≤ 512) × (slot < 256) }
-    ensures { result ≡ not (eqb (rank_in claims.now part slot) 0) }
-{
-    claims[part + (slot as usize)] == claims[STAMP]
+// The claims of the present cycle.
+#[derive(Drop)]
+pub struct Claims {
+    pub stamp: u16,
+    // The channels that an IN claimed, those that an OUT claimed, and the variables that a store claimed.
+    pub inputs: Slots,
+    pub outputs: Slots,
+    pub writers: Slots,
 }
 
-// The node that claimed the slot of a part last.
-pub fn claimant(claims: &[u16; CLAIMS], part: usize, slot: u16) -> u16
-    requires { (part ≤ 512) × (slot < 256) }
-    ensures { result ≡ get_or claims.now (768 + part + slot) 0 }
-{
-    claims[NODES + part + (slot as usize)]
+impl Claims {
+    ghost use Rattle.player.specs.Claims.{Aged};
+
+    pub fn new() -> Claims
+        ensures { Aged result 0 }
+    {
+        Claims {
+            stamp: 0,
+            inputs: Slots::new(),
+            outputs: Slots::new(),
+            writers: Slots::new(),
+        }
+    }
 }

@@ -1,140 +1,129 @@
 // One cycle, by the next entries of the book. It works in the lent lists; a refused cycle is taken back.
 ghost use Rattle.std.specs.Prelude.{◌≡◌, cond, List, ℕ, ltb, length, replicate};
-ghost use Rattle.semantics.specs.Program.{node_count};
-ghost use Rattle.program.specs.Answer.{program_of};
+ghost use Rattle.semantics.specs.Program.{Program, node_count};
+ghost use Rattle.player.specs.declared.claims.Claims.{Claims};
+ghost use Rattle.program.specs.Accepted.{accepted_in};
 ghost use Rattle.player.specs.Begin.{state_of};
 ghost use Rattle.player.specs.Entries.{crossable, CrossedOut};
 ghost use Rattle.player.specs.Claims.{Fresh};
-ghost use Rattle.player.specs.Cycle.{Runnable, Carried, CycleFrom, Started};
-ghost use Rattle.player.specs.Cycle.{AskAnswer, StoreAnswer, AdvanceAnswer, WorkedCycle};
+ghost use Rattle.player.specs.Cycle.{Runnable, Carried, CycleFrom, Started, AskAnswer, StoreAnswer, AdvanceAnswer, WorkedCycle};
 
-use crate::claims::CLAIMS;
-use crate::work::{LOOPED, TALLY, WORK};
-use crate::{channels, entries, marks, moments, stores, undo, visits};
+use crate::claims::Claims;
+use crate::stores::Stores;
+use crate::work::Work;
+use crate::{channels, entries, stores, undo, visits};
+use program::{Accepted, Refusal};
 
-// Where the pass of questions 7 and 8 came to so many entries and no further: the number of the question that refuses, and
-// the marks as they were. Question 7 comes first, so the other entries are crossed out too.
-fn refusal(marks: &mut [u8], entries: &[u16], passed: usize) -> u16
+// Where the pass of questions 7 and 8 came to so many entries and no further: the question that refuses, and the marks as
+// they were. Question 7 comes first, so the other entries are crossed out too.
+fn refusal(marks: &mut [u8], entries: &[u16], passed: usize) -> Refusal
     requires { (marks₀ : List ℕ) × CrossedOut entries.now marks₀ passed marks.old }
     ensures { (marks₀ : List ℕ) → CrossedOut entries.now marks₀ passed marks.old
         → (marks.new ≡ marks₀)
-        × (result ≡ cond (ltb (crossable marks₀ entries.now) (length entries.now)) 7 8) }
+        × (result ≡ cond (ltb (crossable marks₀ entries.now) (length entries.now)) Refusal.Entries Refusal.Channels) }
 {
     let crossed = passed + entries::cross_out(marks, &entries[passed..]);
     entries::mark_again(marks, &entries[..crossed]);
-    if crossed < entries.len() { 7 } else { 8 }
+    if crossed < entries.len() {
+        Refusal::Entries
+    } else {
+        Refusal::Channels
+    }
 }
 
-// Questions 7 to 9 of as many entries as there are marks: the number of the first that is answered no, and the marks stay
-// as they were; or 0, no mark is left, and the right sides are worked.
+// Questions 7 to 9 of as many entries as there are marks, and the marks stay as they were where one is answered no.
 fn ask(
-    exprs: &[u16],
-    nodes: &[u16],
+    program: &Accepted,
     marks: &mut [u8],
     entries: &[u16],
-    work: &mut [u16; WORK],
-    claims: &mut [u16; CLAIMS],
-) -> u16
-    requires by_index { (values : List ℕ) × (counts : List ℕ)
-        × (x : CycleFrom exprs.now nodes.now values marks.old counts entries.now)
-        × Carried exprs.now nodes.now x.widths values marks.old work.old }
+    work: &mut Work,
+    claims: &mut Claims,
+    stores: &mut Stores,
+) -> Result<(), Refusal>
+    requires from { (values : List ℕ) × (counts : List ℕ)
+        × CycleFrom (accepted_in program.now) (state_of values marks.old counts) entries.now
+        × Carried (accepted_in program.now) values marks.old work.old }
     requires fresh { Fresh claims.old }
-    ensures { (values counts : List ℕ)
-        (x : CycleFrom exprs.now nodes.now values marks.old counts
-        entries.now)
-        → Carried exprs.now nodes.now x.widths values marks.old work.old
-        → AskAnswer x claims.old result marks.new work.new claims.new }
+    ensures { (values counts : List ℕ) → CycleFrom (accepted_in program.now) (state_of values marks.old counts) entries.now
+        → Carried (accepted_in program.now) values marks.old work.old
+        → AskAnswer (accepted_in program.now) (state_of values marks.old counts) entries.now claims.old.stamp result marks.new work.new
+        claims.new stores.new }
 {
-    let passed = channels::pair_entries(nodes, marks, entries, claims);
-    if passed < entries.len() {
-        return refusal(marks, entries, passed);
+    if let Err(passed) = channels::pair_entries(program, marks, entries, claims) {
+        return Err(refusal(marks, entries, passed));
     }
-    if !stores::work_right_sides(nodes, exprs, work, claims, entries) {
+    if !stores::work_right_sides(program, work, claims, stores, entries) {
         entries::mark_again(marks, entries);
-        return 9;
+        return Err(Refusal::Stores);
     }
-    0
+    Ok(())
 }
 
 // The stores of a cycle. A moment ends where a value changes.
-fn store(values: &mut [u16], work: &mut [u16; WORK], claims: &mut [u16; CLAIMS])
-    requires { (exprs : List ℕ) × (nodes : List ℕ) × (marks : List ℕ) × (counts : List ℕ) × (entries : List ℕ)
-        × Started exprs nodes values.old marks counts entries work.old claims.old }
-    ensures { (exprs nodes marks counts entries : List ℕ)
-        (x : Started exprs nodes values.old marks counts entries work.old claims.old)
-        → StoreAnswer x values.new work.new claims.new }
+fn store(values: &mut [u16], work: &mut Work, stores: &mut Stores)
+    requires { (P : Program) × (marks : List ℕ) × (counts : List ℕ) × (entries : List ℕ) × (claims : Claims)
+        × Started P (state_of values.old marks counts) entries work.old claims stores.old }
+    ensures { (P : Program) (marks counts entries : List ℕ) (claims : Claims)
+        → Started P (state_of values.old marks counts) entries work.old claims stores.old
+        → StoreAnswer P (state_of values.old marks counts) entries work.old values.new work.new stores.new }
 {
-    if stores::store_all(values, work, claims) {
-        moments::next_moment(work);
+    if stores::store_all(values, work, stores) {
+        work.memo.next_moment();
     }
 }
 
 // The stores and the walks, once questions 7 to 9 are answered yes and the marks are cleared, and question 10: where a
 // zero-time loop was met, all three lists are as before the cycle again.
 fn advance(
-    exprs: &[u16],
-    nodes: &[u16],
+    program: &Accepted,
     values: &mut [u16],
     marks: &mut [u8],
     counts: &mut [u16],
     entries: &[u16],
-    work: &mut [u16; WORK],
-    claims: &mut [u16; CLAIMS],
-) -> u16
-    requires by_index { (marks₀ : List ℕ)
-        × Started exprs.now nodes.now values.old marks₀ counts.old entries.now work.old claims.old }
-    requires marks_value { marks.old ≡ replicate (node_count nodes.now) 0 }
+    work: &mut Work,
+    claims: &Claims,
+    stores: &mut Stores,
+) -> Result<(), Refusal>
+    requires started { (marks₀ : List ℕ)
+        × Started (accepted_in program.now) (state_of values.old marks₀ counts.old) entries.now work.old claims.now stores.old }
+    requires cleared { marks.old ≡ replicate (node_count (accepted_in program.now).nodes) 0 }
     ensures { (marks₀ : List ℕ)
-        (x : Started exprs.now nodes.now values.old marks₀ counts.old
-        entries.now work.old claims.old)
-        → AdvanceAnswer x result values.new marks.new counts.new work.new
-        claims.new }
+        → Started (accepted_in program.now) (state_of values.old marks₀ counts.old) entries.now work.old claims.now stores.old
+        → AdvanceAnswer (accepted_in program.now) (state_of values.old marks₀ counts.old) entries.now result
+        (state_of values.new marks.new counts.new) work.new }
 {
-    store(values, work, claims);
-    work[TALLY] = 0;
-    visits::visit_all(nodes, exprs, work, marks, counts, claims, entries);
-    if work[LOOPED] == 0 {
-        return 0;
+    store(values, work, stores);
+    work.tally = 0;
+    visits::visit_all(program, work, marks, counts, claims, entries);
+    if work.looped {
+        stores::restore_all(values, stores);
+        undo::undo_walks(program, entries, marks, counts);
+        return Err(Refusal::Loop);
     }
-    stores::restore_all(values, claims);
-    undo::undo_walks(nodes, entries, marks, counts);
-    10
+    Ok(())
 }
 
-// The number of the question that refuses the cycle, or 0. `book` starts at the entries not yet read; the cycle takes as
-// many as there are marks, whose number `work` has.
+// `book` starts at the entries not yet read; the cycle takes as many as there are marks, whose number `work` has.
 pub fn work_cycle(
-    exprs: &[u16],
-    nodes: &[u16],
+    program: &Accepted,
     values: &mut [u16],
     marks: &mut [u8],
     counts: &mut [u16],
     book: &[u16],
-    work: &mut [u16; WORK],
-    claims: &mut [u16; CLAIMS],
-) -> u16
-    requires by_index { (widths : List ℕ) × (vars : ℕ) × (chans : ℕ)
-        × Runnable (program_of exprs.now nodes.now widths vars chans) (state_of values.old marks.old counts.old)
-        × Carried exprs.now nodes.now widths values.old marks.old work.old }
+    work: &mut Work,
+    claims: &mut Claims,
+    stores: &mut Stores,
+) -> Result<(), Refusal>
+    requires runnable { Runnable (accepted_in program.now) (state_of values.old marks.old counts.old) × Carried (accepted_in program.now) values.old marks.old work.old }
     requires fresh { Fresh claims.old }
-    ensures { (widths : List ℕ) (vars chans : ℕ)
-        → Runnable (program_of exprs.now nodes.now widths vars chans)
-        (state_of values.old marks.old counts.old)
-        → Carried exprs.now nodes.now widths values.old marks.old
-        work.old
-        → WorkedCycle (program_of exprs.now nodes.now widths vars chans)
-        (state_of values.old marks.old counts.old) book.now
-        claims.old result (state_of values.new marks.new counts.new)
-        work.new claims.new }
+    ensures { WorkedCycle (accepted_in program.now) (state_of values.old marks.old counts.old) book.now claims.old.stamp result
+        (state_of values.new marks.new counts.new) work.new claims.new }
 {
-    let m = marks::tally(work);
-    if book.len() < m {
-        return 7;
-    }
-    let entries = &book[..m];
-    let number = ask(exprs, nodes, marks, entries, work, claims);
-    if number != 0 {
-        return number;
-    }
-    advance(exprs, nodes, values, marks, counts, entries, work, claims)
+    let Some(entries) = book.get(..work.tally as usize) else {
+        return Err(Refusal::Entries);
+    };
+    ask(program, marks, entries, work, claims, stores)?;
+    advance(
+        program, values, marks, counts, entries, work, claims, stores,
+    )
 }

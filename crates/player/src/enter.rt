@@ -1,128 +1,97 @@
-// Entering a node. The outcome is one number; whether a zero-time loop was met is noted in `work`, and the walk goes on as
-// if the WHL were finished.
-ghost use Rattle.std.specs.Prelude.{◌≡◌, true, false, cond, ◌&&◌, List, ℕ, ◌≤◌, ◌<◌, eqb, set};
-ghost use Rattle.semantics.specs.Program.{node_count, is_leaf, kind_of, a_at};
-ghost use Rattle.semantics.specs.Walk.{enter};
-ghost use Rattle.semantics.specs.Facts.{statement_at};
-ghost use Rattle.player.specs.Work.{KeptFrom};
-ghost use Rattle.player.specs.Walks.{walk_in, holds_in, kind_word, Walking, Enters, ButLast, Chosen};
+// Entering a node.
+ghost use Rattle.std.specs.Prelude.{◌≡◌, ◌<◌};
+ghost use Rattle.semantics.specs.Program.{node_count, kind_at, a_at};
+ghost use Rattle.semantics.specs.Program.Kind.{SEQ, PAR};
+ghost use Rattle.program.specs.Accepted.{accepted_in};
+ghost use Rattle.player.specs.Memo.{Known, SameMoment};
+ghost use Rattle.player.specs.Walks.{entering, holds_now, Walking, Enters, ButLast, Chosen, Branches, passed_by};
 
-use crate::work::{LOOPED, WORK};
+use crate::memo::Memo;
+use crate::outcome::Outcome;
+use crate::work::Work;
 use crate::{expressions, marks, records, threads};
-use program::kinds::{ASG, DLY, IF, OUT, PAR, SEQ, WHL};
-
-pub const FINISHED: u16 = 0;
-
-pub const STAYS: u16 = 1;
+use program::{Accepted, Kind};
 
 // Whether the condition of node i is true in the values of the moment.
-pub fn holds(nodes: &[u16], exprs: &[u16], work: &mut [u16; WORK], i: u16) -> bool
-    requires by_index { (values : List ℕ) × (marks : List ℕ) × (counts : List ℕ) × Walking exprs.now nodes.now values marks counts work.old }
-    requires i_bound { (i < node_count nodes.now) × (6 ≤ kind_word nodes.now i) × (kind_word nodes.now i ≤ 7) }
-    ensures by_index_2 { (values marks counts : List ℕ)
-        → Walking exprs.now nodes.now values marks counts work.old
-        → (result ≡ holds_in exprs.now values (a_at nodes.now i))
-        × Walking exprs.now nodes.now values marks counts work.new }
-    ensures kept_from { KeptFrom 2304 work.old work.new }
+pub fn holds(program: &Accepted, memo: &mut Memo, i: u16) -> bool
+    requires i_bound { (i < node_count (accepted_in program.now).nodes) × Branches (accepted_in program.now).nodes i }
+    requires known { Known (accepted_in program.now).exprs memo.old }
+    ensures value { result ≡ holds_now (accepted_in program.now) memo.old (a_at (accepted_in program.now).nodes i) }
+    ensures known { Known (accepted_in program.now).exprs memo.new × SameMoment memo.old memo.new }
 {
-    expressions::value(exprs, work, records::a_of(nodes, i)) != 0
-}
-
-fn is_leaf(kind: u16) -> bool
-    ensures { result ≡ true → is_leaf (kind_of kind) ≡ true }
-{
-    match kind {
-        ASG..=OUT | DLY => true,
-        _ => false,
-    }
+    expressions::value(program, memo, records::node(program, i).a) != 0
 }
 
 // Where a WHL was passed, finishing is a zero-time loop. Gives the outcome as it is.
-pub fn pass(work: &mut [u16; WORK], looping: bool, outcome: u16) -> u16
+pub fn pass(work: &mut Work, looping: bool, outcome: Outcome) -> Outcome
     ensures value { result ≡ outcome }
-    ensures work_after { work.new
-        ≡ cond (looping && eqb outcome 0) (set work.old 2306 1) work.old }
+    ensures work_after { work.new ≡ passed_by looping outcome work.old }
 {
-    if looping & (outcome == FINISHED) {
-        work[LOOPED] = 1;
+    if looping & (outcome == Outcome::Finished) {
+        work.looped = true;
     }
     outcome
 }
 
-// The child that node i, an IF or a WHL, enters, or 0 where it enters none: no node has node 0 as its child.
-fn chosen(nodes: &[u16], exprs: &[u16], work: &mut [u16; WORK], i: u16) -> u16
-    requires by_index { (values : List ℕ) × (marks : List ℕ) × (counts : List ℕ) × Walking exprs.now nodes.now values marks counts work.old }
-    requires i_bound { (i < node_count nodes.now) × (6 ≤ kind_word nodes.now i) × (kind_word nodes.now i ≤ 7) }
-    ensures { (values marks counts : List ℕ)
-        → Walking exprs.now nodes.now values marks counts work.old
-        → Chosen exprs.now nodes.now values work.old i marks counts result
-        work.new }
+// The child that node i, an IF or a WHL, enters, if it enters one.
+fn chosen(program: &Accepted, memo: &mut Memo, i: u16) -> Option<u16>
+    requires i_bound { (i < node_count (accepted_in program.now).nodes) × Branches (accepted_in program.now).nodes i }
+    requires known { Known (accepted_in program.now).exprs memo.old }
+    ensures chosen { Chosen (accepted_in program.now) memo.old i result }
+    ensures known { Known (accepted_in program.now).exprs memo.new × SameMoment memo.old memo.new }
 {
-    if holds(nodes, exprs, work, i) {
-        return i + 1;
+    if holds(program, memo, i) {
+        return Some(i + 1);
     }
-    if records::kind_of(nodes, i) == IF {
-        let second = records::end_of(nodes, i + 1);
-        if second < records::end_of(nodes, i) {
-            return second;
+    if records::kind(program, i) == Kind::If {
+        let second = records::node(program, i + 1).end;
+        if second < records::node(program, i).end {
+            return Some(second);
         }
     }
-    0
+    None
 }
 
 // Enter node i. What an IF, a WHL or a SEQ at its last child goes on with is entered in the next turn of the loop;
-// `looping` says whether a WHL was passed on the way. An accepted program has no other kind.
+// `looping` says whether a WHL was passed on the way.
 #[cycle(enter_but_last_enter_child_enter_each_enter_node)]
 pub fn enter_node(
-    nodes: &[u16],
-    exprs: &[u16],
-    work: &mut [u16; WORK],
+    program: &Accepted,
+    work: &mut Work,
     marks: &mut [u8],
     counts: &mut [u16],
     i: u16,
-) -> u16
-    requires by_index { (values : List ℕ)
-        × Walking exprs.now nodes.now values marks.old counts.old work.old }
-    requires i_bound { i < node_count nodes.now }
-    ensures { (values : List ℕ)
-        → Walking exprs.now nodes.now values marks.old counts.old
-        work.old
-        → Enters exprs.now nodes.now values work.old
-        (enter (holds_in exprs.now values) (statement_at nodes.now i)
-        (walk_in marks.old counts.old work.old))
+) -> Outcome
+    requires walking { Walking (accepted_in program.now) marks.old counts.old work.old }
+    requires i_bound { i < node_count (accepted_in program.now).nodes }
+    ensures { Enters (accepted_in program.now) work.old
+        (entering (accepted_in program.now) marks.old counts.old work.old i)
         result marks.new counts.new work.new }
 {
     let mut node = i;
     let mut looping = false;
     loop {
-        let kind = records::kind_of(nodes, node);
+        let kind = records::kind(program, node);
         match kind {
-            ASG..=OUT | DLY => {
+            Kind::Leaf(_) => {
                 marks::mark(work, marks, node);
-                return STAYS;
+                return Outcome::Stays;
             }
-            SEQ => {
-                let turn = enter_but_last(nodes, exprs, work, marks, counts, node);
-                if turn.outcome != FINISHED {
-                    return turn.outcome;
-                }
-                node = turn.last;
-            }
-            PAR => {
-                let outcome = enter_each(nodes, exprs, work, marks, counts, node);
+            Kind::Seq => match enter_but_last(program, work, marks, counts, node) {
+                Some(last) => node = last,
+                None => return Outcome::Stays,
+            },
+            Kind::Par => {
+                let outcome = enter_each(program, work, marks, counts, node);
                 return pass(work, looping, outcome);
             }
-            IF..=WHL => {
-                let child = chosen(nodes, exprs, work, node);
-                if child == 0 {
-                    return pass(work, looping, FINISHED);
+            Kind::If | Kind::Whl => match chosen(program, &mut work.memo, node) {
+                Some(child) => {
+                    looping |= kind == Kind::Whl;
+                    node = child;
                 }
-                looping = looping | (kind == WHL);
-                node = child;
-            }
-            _ => {
-                return FINISHED;
-            }
+                None => return pass(work, looping, Outcome::Finished),
+            },
         }
     }
 }
@@ -130,107 +99,76 @@ pub fn enter_node(
 // Enter node i; a leaf at once, without a call.
 #[cycle(enter_but_last_enter_child_enter_each_enter_node)]
 pub fn enter_child(
-    nodes: &[u16],
-    exprs: &[u16],
-    work: &mut [u16; WORK],
+    program: &Accepted,
+    work: &mut Work,
     marks: &mut [u8],
     counts: &mut [u16],
     i: u16,
-) -> u16
-    requires by_index { (values : List ℕ)
-        × Walking exprs.now nodes.now values marks.old counts.old work.old }
-    requires i_bound { i < node_count nodes.now }
-    ensures { (values : List ℕ)
-        → Walking exprs.now nodes.now values marks.old counts.old
-        work.old
-        → Enters exprs.now nodes.now values work.old
-        (enter (holds_in exprs.now values) (statement_at nodes.now i)
-        (walk_in marks.old counts.old work.old))
+) -> Outcome
+    requires walking { Walking (accepted_in program.now) marks.old counts.old work.old }
+    requires i_bound { i < node_count (accepted_in program.now).nodes }
+    ensures { Enters (accepted_in program.now) work.old
+        (entering (accepted_in program.now) marks.old counts.old work.old i)
         result marks.new counts.new work.new }
 {
-    if is_leaf(records::kind_of(nodes, i)) {
+    if let Kind::Leaf(_) = records::kind(program, i) {
         marks::mark(work, marks, i);
-        return STAYS;
+        return Outcome::Stays;
     }
-    enter_node(nodes, exprs, work, marks, counts, i)
+    enter_node(program, work, marks, counts, i)
 }
 
-// What entering the children of a SEQ but for the last gave, and the last.
-#[derive(Clone, Copy)]
-struct Turn {
-    outcome: u16,
-    last: u16,
-}
-
-// Enter the children of SEQ h in turn until one stays, but for the last.
+// Enter the children of SEQ h in turn until one stays, but for the last. The last, if none stays.
 #[cycle(enter_but_last_enter_child_enter_each_enter_node)]
 fn enter_but_last(
-    nodes: &[u16],
-    exprs: &[u16],
-    work: &mut [u16; WORK],
+    program: &Accepted,
+    work: &mut Work,
     marks: &mut [u8],
     counts: &mut [u16],
     h: u16,
-) -> Turn
-    requires by_index { (values : List ℕ)
-        × Walking exprs.now nodes.now values marks.old counts.old work.old }
-    requires h_bound { (h < node_count nodes.now) × (kind_word nodes.now h ≡ 1) }
-    ensures { (values : List ℕ)
-        → Walking exprs.now nodes.now values marks.old counts.old
-        work.old
-        → ButLast exprs.now nodes.now values work.old h
-        (enter (holds_in exprs.now values) (statement_at nodes.now h)
-        (walk_in marks.old counts.old work.old))
-        result.outcome result.last marks.new counts.new work.new }
+) -> Option<u16>
+    requires walking { Walking (accepted_in program.now) marks.old counts.old work.old }
+    requires h_bound { (h < node_count (accepted_in program.now).nodes) × (kind_at (accepted_in program.now).nodes h ≡ SEQ) }
+    ensures { ButLast (accepted_in program.now) work.old h
+        (entering (accepted_in program.now) marks.old counts.old work.old h)
+        result marks.new counts.new work.new }
 {
-    let end = records::end_of(nodes, h);
+    let end = records::node(program, h).end;
     let mut child = h + 1;
-    let mut next = records::end_of(nodes, child);
+    let mut next = records::node(program, child).end;
     while next < end {
-        let outcome = enter_child(nodes, exprs, work, marks, counts, child);
-        if outcome != FINISHED {
-            return Turn {
-                outcome,
-                last: child,
-            };
+        if enter_child(program, work, marks, counts, child) == Outcome::Stays {
+            return None;
         }
         child = next;
-        next = records::end_of(nodes, child);
+        next = records::node(program, child).end;
     }
-    Turn {
-        outcome: FINISHED,
-        last: child,
-    }
+    Some(child)
 }
 
 // Enter every child of PAR h, first child first. Each that finishes lowers the count; the PAR is finished at 0.
 #[cycle(enter_but_last_enter_child_enter_each_enter_node)]
 fn enter_each(
-    nodes: &[u16],
-    exprs: &[u16],
-    work: &mut [u16; WORK],
+    program: &Accepted,
+    work: &mut Work,
     marks: &mut [u8],
     counts: &mut [u16],
     h: u16,
-) -> u16
-    requires by_index { (values : List ℕ)
-        × Walking exprs.now nodes.now values marks.old counts.old work.old }
-    requires h_bound { (h < node_count nodes.now) × (kind_word nodes.now h ≡ 2) }
-    ensures { (values : List ℕ)
-        → Walking exprs.now nodes.now values marks.old counts.old
-        work.old
-        → Enters exprs.now nodes.now values work.old
-        (enter (holds_in exprs.now values) (statement_at nodes.now h)
-        (walk_in marks.old counts.old work.old))
+) -> Outcome
+    requires walking { Walking (accepted_in program.now) marks.old counts.old work.old }
+    requires h_bound { (h < node_count (accepted_in program.now).nodes) × (kind_at (accepted_in program.now).nodes h ≡ PAR) }
+    ensures { Enters (accepted_in program.now) work.old
+        (entering (accepted_in program.now) marks.old counts.old work.old h)
         result marks.new counts.new work.new }
 {
-    counts[h as usize] = threads::count_children(nodes, h);
-    let end = records::end_of(nodes, h);
+    counts[h as usize] = threads::count_children(program, h);
+    let end = records::node(program, h).end;
     let mut child = h + 1;
     while child < end {
-        let outcome = enter_child(nodes, exprs, work, marks, counts, child);
-        threads::lower_if_finished(counts, h, outcome == FINISHED);
-        child = records::end_of(nodes, child);
+        if enter_child(program, work, marks, counts, child) == Outcome::Finished {
+            threads::lower(counts, h);
+        }
+        child = records::node(program, child).end;
     }
     threads::outcome(counts, h)
 }

@@ -8,11 +8,7 @@ ghost use Rattle.player.specs.Entries.{crossable, set_all};
 pub fn is_marked(marks: &[u8], i: u16) -> bool
     ensures { result ≡ marked marks.now i }
 {
-    let at = i as usize;
-    if marks.len() <= at {
-        return false;
-    }
-    marks[at] == 1
+    marks.get(i as usize) == Some(&1)
 }
 
 // Crosses node i out.
@@ -28,22 +24,13 @@ pub fn cross_out(marks: &mut [u8], entries: &[u16]) -> usize
     ensures value { result ≡ crossable marks.old entries.now }
     ensures marks_after { marks.new ≡ set_all 0 marks.old (take result entries.now) }
 {
-    let mut k: usize = 0;
-    while k < entries.len() {
-        if !is_marked(marks, entries[k]) {
+    for (k, &i) in entries.iter().enumerate() {
+        if !is_marked(marks, i) {
             return k;
         }
-        cross(marks, entries[k]);
-        k += 1;
+        cross(marks, i);
     }
-    k
-}
-
-fn mark_one(marks: &mut [u8], i: u16)
-    requires { i < length marks.old }
-    ensures { marks.new ≡ set marks.old i 1 }
-{
-    marks[i as usize] = 1;
+    entries.len()
 }
 
 // Marks the entries again: what crossing them out undid.
@@ -51,9 +38,7 @@ pub fn mark_again(marks: &mut [u8], entries: &[u16])
     requires { (k : ℕ) → k < length entries.now → get_or entries.now k 0 < length marks.old }
     ensures { marks.new ≡ set_all 1 marks.old entries.now }
 {
-    let mut k: usize = 0;
-    while k < entries.len() {
-        mark_one(marks, entries[k]);
-        k += 1;
+    for &i in entries {
+        marks[i as usize] = 1;
     }
 }

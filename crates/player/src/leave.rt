@@ -1,144 +1,105 @@
 // Leaving a node, a climb: each turn leaves one node.
-ghost use Rattle.std.specs.Prelude.{◌≡◌, cond, List, ℕ, ◌≤◌, ◌<◌, eqb};
+ghost use Rattle.std.specs.Prelude.{◌≡◌, ◌<◌, ℕ};
 ghost use Rattle.std.proofs.Math.Option.{some};
-ghost use Rattle.semantics.specs.Program.{node_count};
+ghost use Rattle.semantics.specs.Program.{node_count, kind_at};
+ghost use Rattle.semantics.specs.Program.Kind.{SEQ};
 ghost use Rattle.semantics.specs.Parents.{parent};
 ghost use Rattle.semantics.specs.Walk.{leave};
+ghost use Rattle.program.specs.Accepted.{accepted_in};
 ghost use Rattle.player.specs.Work.{Climbing};
-ghost use Rattle.player.specs.Walks.{walk_in, holds_in, kind_word, Walking, Walks, Turned};
+ghost use Rattle.player.specs.Walks.{walk_in, holds_now, Walking, Walks, Turned, Branches};
 
-use crate::enter::FINISHED;
-use crate::work::{PARENTS, WORK};
+use crate::work::Work;
 use crate::{enter, records, threads};
-use program::kinds::{ASG, DLY, IF, OUT, PAR, SEQ, WHL};
-
-// Node i is left in the next turn where the outcome is that it finished; otherwise the climb is over.
-fn if_finished(outcome: u16, i: u16) -> u16
-    ensures { result ≡ cond (eqb outcome 0) i 0 }
-{
-    if outcome == FINISHED { i } else { 0 }
-}
+use program::limits::NO_PARENT;
+use program::{Accepted, Kind};
 
 // Node i, a child of SEQ h, is left: the next child is entered alone; if it stays, the climb is over, and if it finishes,
 // the next turn leaves it. With no next child the next turn leaves the SEQ.
 fn after_child(
-    nodes: &[u16],
-    exprs: &[u16],
-    work: &mut [u16; WORK],
+    program: &Accepted,
+    work: &mut Work,
     marks: &mut [u8],
     counts: &mut [u16],
     i: u16,
     h: u16,
-) -> u16
-    requires by_index { (values : List ℕ)
-        × Walking exprs.now nodes.now values marks.old counts.old work.old }
-    requires i_bound { (i < node_count nodes.now) × (parent nodes.now i ≡ some h) × (kind_word nodes.now h ≡ 1) }
-    ensures { (values : List ℕ)
-        → Walking exprs.now nodes.now values marks.old counts.old
-        work.old
-        → Turned exprs.now nodes.now values work.old i
-        (walk_in marks.old counts.old work.old)
+) -> Option<u16>
+    requires walking { Walking (accepted_in program.now) marks.old counts.old work.old }
+    requires i_bound { (i < node_count (accepted_in program.now).nodes) × (parent (accepted_in program.now).nodes i ≡ some h) × (kind_at (accepted_in program.now).nodes h ≡ SEQ) }
+    ensures { Turned (accepted_in program.now) work.old i (walk_in marks.old counts.old work.old)
         result marks.new counts.new work.new }
 {
-    let next = records::end_of(nodes, i);
-    if records::end_of(nodes, h) <= next {
-        return h;
+    let next = records::node(program, i).end;
+    if records::node(program, h).end <= next {
+        return Some(h);
     }
-    let outcome = enter::enter_child(nodes, exprs, work, marks, counts, next);
-    if_finished(outcome, next)
+    enter::enter_child(program, work, marks, counts, next).finished(next)
 }
 
 // A child of node h, an IF or a WHL, is left. An IF is left in the next turn, and so is a WHL that is false. A WHL that is
 // true enters its child again, which is a zero-time loop if the child finishes.
 fn after_body(
-    nodes: &[u16],
-    exprs: &[u16],
-    work: &mut [u16; WORK],
+    program: &Accepted,
+    work: &mut Work,
     marks: &mut [u8],
     counts: &mut [u16],
     h: u16,
-) -> u16
-    requires by_index { (values : List ℕ)
-        × Walking exprs.now nodes.now values marks.old counts.old work.old }
-    requires h_bound { (h < node_count nodes.now) × (6 ≤ kind_word nodes.now h) × (kind_word nodes.now h ≤ 7) }
-    ensures { (values : List ℕ) (i : ℕ)
-        → Walking exprs.now nodes.now values marks.old counts.old
-        work.old
-        → i < node_count nodes.now → parent nodes.now i ≡ some h
-        → Turned exprs.now nodes.now values work.old i
-        (walk_in marks.old counts.old work.old)
+) -> Option<u16>
+    requires walking { Walking (accepted_in program.now) marks.old counts.old work.old }
+    requires h_bound { (h < node_count (accepted_in program.now).nodes) × Branches (accepted_in program.now).nodes h }
+    ensures { (i : ℕ) → i < node_count (accepted_in program.now).nodes → parent (accepted_in program.now).nodes i ≡ some h
+        → Turned (accepted_in program.now) work.old i (walk_in marks.old counts.old work.old)
         result marks.new counts.new work.new }
 {
-    if records::kind_of(nodes, h) == IF {
-        return h;
+    if records::kind(program, h) == Kind::If {
+        return Some(h);
     }
-    if !enter::holds(nodes, exprs, work, h) {
-        return h;
+    if !enter::holds(program, &mut work.memo, h) {
+        return Some(h);
     }
-    let outcome = enter::enter_child(nodes, exprs, work, marks, counts, h + 1);
-    if_finished(enter::pass(work, true, outcome), h)
+    let outcome = enter::enter_child(program, work, marks, counts, h + 1);
+    enter::pass(work, true, outcome).finished(h)
 }
 
-// One turn: node i, which is not node 0, is left. Gives the node that the next turn leaves, or 0 where the climb is over:
-// leaving node 0, which has no parent, does nothing. A PAR counts one thread fewer, and is left with the last. A leaf is no
-// parent, and an accepted program has no other kind. SEQ and PAR are one range with a test inside, so that the compiler
-// tells all kinds by tests: a jump through a table makes a deep climb slower.
+// One turn: node i is left. Gives the node that the next turn leaves, or none where the climb is over: leaving node 0, which
+// has no parent, does nothing. A PAR counts one thread fewer, and is left with the last. A leaf is no parent.
 fn turn(
-    nodes: &[u16],
-    exprs: &[u16],
-    work: &mut [u16; WORK],
+    program: &Accepted,
+    work: &mut Work,
     marks: &mut [u8],
     counts: &mut [u16],
     i: u16,
-) -> u16
-    requires by_index { (values : List ℕ)
-        × Walking exprs.now nodes.now values marks.old counts.old work.old }
-    requires i_nonzero { (0 < i) × (i < node_count nodes.now) × Climbing nodes.now work.old }
-    ensures { (values : List ℕ)
-        → Walking exprs.now nodes.now values marks.old counts.old
-        work.old
-        → Turned exprs.now nodes.now values work.old i
-        (walk_in marks.old counts.old work.old)
+) -> Option<u16>
+    requires walking { Walking (accepted_in program.now) marks.old counts.old work.old }
+    requires i_bound { (i < node_count (accepted_in program.now).nodes) × Climbing (accepted_in program.now).nodes work.old }
+    ensures { Turned (accepted_in program.now) work.old i (walk_in marks.old counts.old work.old)
         result marks.new counts.new work.new }
 {
-    let h = work[PARENTS + (i as usize)];
-    let kind = records::kind_of(nodes, h);
-    match kind {
-        IF..=WHL => after_body(nodes, exprs, work, marks, counts, h),
-        SEQ..=PAR => {
-            if kind == SEQ {
-                return after_child(nodes, exprs, work, marks, counts, i, h);
-            }
+    let h = work.parents[i as usize];
+    if h == NO_PARENT {
+        return None;
+    }
+    match records::kind(program, h) {
+        Kind::If | Kind::Whl => after_body(program, work, marks, counts, h),
+        Kind::Seq => after_child(program, work, marks, counts, i, h),
+        Kind::Par => {
             threads::lower(counts, h);
-            if_finished(threads::outcome(counts, h), h)
+            threads::outcome(counts, h).finished(h)
         }
-        ASG..=OUT | DLY => 0,
-        _ => 0,
+        Kind::Leaf(_) => None,
     }
 }
 
 // Leave node i.
-pub fn leave(
-    nodes: &[u16],
-    exprs: &[u16],
-    work: &mut [u16; WORK],
-    marks: &mut [u8],
-    counts: &mut [u16],
-    i: u16,
-)
-    requires by_index { (values : List ℕ)
-        × Walking exprs.now nodes.now values marks.old counts.old work.old }
-    requires i_bound { (i < node_count nodes.now) × Climbing nodes.now work.old }
-    ensures { (values : List ℕ)
-        → Walking exprs.now nodes.now values marks.old counts.old
-        work.old
-        → Walks exprs.now nodes.now values work.old
-        (leave (holds_in exprs.now values) nodes.now i
-        (walk_in marks.old counts.old work.old))
+pub fn leave(program: &Accepted, work: &mut Work, marks: &mut [u8], counts: &mut [u16], i: u16)
+    requires walking { Walking (accepted_in program.now) marks.old counts.old work.old }
+    requires i_bound { (i < node_count (accepted_in program.now).nodes) × Climbing (accepted_in program.now).nodes work.old }
+    ensures { Walks (accepted_in program.now) work.old
+        (leave (holds_now (accepted_in program.now) work.old.memo) (accepted_in program.now).nodes i (walk_in marks.old counts.old work.old))
         marks.new counts.new work.new }
 {
-    let mut node = i;
-    while 0 < node {
-        node = turn(nodes, exprs, work, marks, counts, node);
+    let mut next = Some(i);
+    while let Some(node) = next {
+        next = turn(program, work, marks, counts, node);
     }
 }

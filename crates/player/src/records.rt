@@ -1,64 +1,66 @@
-// The words of the records of an accepted program, read without a test: the caller knows that there is such a record.
+// The records of an accepted program, read without a test: the caller knows that there is such a record.
 ghost use Rattle.std.specs.Prelude.{◌≡◌, ◌*◌, ◌<◌, get_or};
-ghost use Rattle.semantics.specs.Program.{expr_count, node_count, p_at, q_at, parent_at, end_at, a_at, b_at};
-ghost use Rattle.player.specs.Walks.{kind_word};
+ghost use Rattle.semantics.specs.Program.{expr_count, node_count, kind_at, op_at, p_at, q_at, parent_at, end_at, a_at, b_at};
+ghost use Rattle.program.specs.Accepted.{accepted_in};
+ghost use Rattle.program.specs.Kinds.{rule_kind};
+ghost use Rattle.program.specs.Ops.{rule_op};
 
-// ---- an expression: op, p, q
+use program::{Accepted, Expr, Kind, Node, Op};
 
-pub fn op_of(exprs: &[u16], e: u16) -> u16
-    requires { e < expr_count exprs.now }
-    ensures { result ≡ get_or exprs.now (3 * e) 0 }
+// Expression e.
+pub fn expr(program: &Accepted, e: u16) -> Expr
+    requires { e < expr_count (accepted_in program.now).exprs }
+    ensures op { result.op ≡ get_or (accepted_in program.now).exprs (3 * e) 0 }
+    ensures p { result.p ≡ p_at (accepted_in program.now).exprs e }
+    ensures q { result.q ≡ q_at (accepted_in program.now).exprs e }
 {
-    exprs[3 * (e as usize)]
+    let at = 3 * (e as usize);
+    let exprs = program.lists.exprs;
+    Expr {
+        op: exprs[at],
+        p: exprs[at + 1],
+        q: exprs[at + 2],
+    }
 }
 
-pub fn p_of(exprs: &[u16], e: u16) -> u16
-    requires { e < expr_count exprs.now }
-    ensures { result ≡ p_at exprs.now e }
+// The op of expression e.
+pub fn op(program: &Accepted, e: u16) -> Op
+    requires { e < expr_count (accepted_in program.now).exprs }
+    ensures { rule_op result ≡ op_at (accepted_in program.now).exprs e }
 {
-    exprs[3 * (e as usize) + 1]
+    match Op::try_from(expr(program, e).op) {
+        Ok(op) => op,
+        Err(_) => unreachable!(),
+    }
 }
 
-pub fn q_of(exprs: &[u16], e: u16) -> u16
-    requires { e < expr_count exprs.now }
-    ensures { result ≡ q_at exprs.now e }
+// Node i.
+pub fn node(program: &Accepted, i: u16) -> Node
+    requires { i < node_count (accepted_in program.now).nodes }
+    ensures kind { result.kind ≡ get_or (accepted_in program.now).nodes (5 * i) 0 }
+    ensures parent { result.parent ≡ parent_at (accepted_in program.now).nodes i }
+    ensures end { result.end ≡ end_at (accepted_in program.now).nodes i }
+    ensures a { result.a ≡ a_at (accepted_in program.now).nodes i }
+    ensures b { result.b ≡ b_at (accepted_in program.now).nodes i }
 {
-    exprs[3 * (e as usize) + 2]
+    let at = 5 * (i as usize);
+    let nodes = program.lists.nodes;
+    Node {
+        kind: nodes[at],
+        parent: nodes[at + 1],
+        end: nodes[at + 2],
+        a: nodes[at + 3],
+        b: nodes[at + 4],
+    }
 }
 
-// ---- a node: kind, parent, end, a, b
-
-pub fn kind_of(nodes: &[u16], i: u16) -> u16
-    requires { i < node_count nodes.now }
-    ensures { result ≡ kind_word nodes.now i }
+// The kind of node i.
+pub fn kind(program: &Accepted, i: u16) -> Kind
+    requires { i < node_count (accepted_in program.now).nodes }
+    ensures { rule_kind result ≡ kind_at (accepted_in program.now).nodes i }
 {
-    nodes[5 * (i as usize)]
-}
-
-pub fn parent_of(nodes: &[u16], i: u16) -> u16
-    requires { i < node_count nodes.now }
-    ensures { result ≡ parent_at nodes.now i }
-{
-    nodes[5 * (i as usize) + 1]
-}
-
-pub fn end_of(nodes: &[u16], i: u16) -> u16
-    requires { i < node_count nodes.now }
-    ensures { result ≡ end_at nodes.now i }
-{
-    nodes[5 * (i as usize) + 2]
-}
-
-pub fn a_of(nodes: &[u16], i: u16) -> u16
-    requires { i < node_count nodes.now }
-    ensures { result ≡ a_at nodes.now i }
-{
-    nodes[5 * (i as usize) + 3]
-}
-
-pub fn b_of(nodes: &[u16], i: u16) -> u16
-    requires { i < node_count nodes.now }
-    ensures { result ≡ b_at nodes.now i }
-{
-    nodes[5 * (i as usize) + 4]
+    match Kind::try_from(node(program, i).kind) {
+        Ok(kind) => kind,
+        Err(_) => unreachable!(),
+    }
 }

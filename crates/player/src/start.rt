@@ -1,64 +1,59 @@
 // What a run, or the entering of node 0, starts with in `work`.
-ghost use Rattle.std.specs.Prelude.{◌≡◌, List, ℕ, ◌+◌, ◌≤◌, ◌<◌, length, replicate};
+ghost use Rattle.std.specs.Prelude.{◌≡◌, ◌≤◌, length, replicate, ℕ, List};
 ghost use Rattle.semantics.specs.Program.{node_count};
-ghost use Rattle.player.specs.Work.{Memo, KeptFrom, EachWidth, MasksTo, ParentsTo};
+ghost use Rattle.program.specs.Accepted.{accepted_in};
+ghost use Rattle.player.specs.Memo.{Known, Holds};
+ghost use Rattle.player.specs.Work.{Climbing, Masks, new_work};
 ghost use Rattle.player.specs.Cycle.{Carried};
 
-use crate::work::{MASKS, NOW, PARENTS, TALLY, WORK};
+use crate::work::Work;
 use crate::{marks, records, widths};
-use program::VarId;
+use program::{Accepted, VarId};
 
 // The values of the variables, at a first moment at which nothing is worked.
-pub fn fill_values(values: &[u16], work: &mut [u16; WORK])
-    requires { (length values.now ≤ 256) × (work.old ≡ replicate 3587 0) }
-    ensures by_index { (exprs : List ℕ) → Memo exprs values.now work.new }
-    ensures kept_from { KeptFrom 2305 work.old work.new }
+pub fn fill_values(values: &[u16], work: &mut Work)
+    requires values_len { length values.now ≤ 256 }
+    requires new { work.old ≡ new_work }
+    ensures known { (exprs : List ℕ) → Known exprs work.new.memo }
+    ensures holds { Holds values.now work.new.memo }
+    ensures kept { work.new ≡ record work.old { memo = work.new.memo } }
 {
-    let mut v: usize = 0;
-    while v < values.len() {
-        work[v] = values[v];
-        v += 1;
-    }
-    work[NOW] = 1;
+    work.memo.variables[..values.len()].copy_from_slice(values);
+    work.memo.present = 1;
 }
 
-// The parents of the nodes.
-fn fill_parents(nodes: &[u16], work: &mut [u16; WORK])
-    requires { (node_count nodes.now ≤ 1024) × (length work.old ≡ 3587) }
-    ensures { ParentsTo nodes.now work.old work.new (node_count nodes.now) }
+// The parents of the nodes, over zeros.
+fn fill_parents(program: &Accepted, work: &mut Work)
+    requires { work.old.parents ≡ replicate 1024 0 }
+    ensures climbing { Climbing (accepted_in program.now).nodes work.new }
+    ensures kept { work.new ≡ record work.old { parents = work.new.parents } }
 {
-    let count = nodes.len() / 5;
-    let mut i: usize = 0;
-    while i < count {
-        work[PARENTS + i] = records::parent_of(nodes, i as u16);
-        i += 1;
+    let count = program.lists.node_count() as u16;
+    for i in 0..count {
+        work.parents[i as usize] = records::node(program, i).parent;
     }
 }
 
 // The masks of the variables, over zeros.
-fn fill_masks(widths: &[u16], work: &mut [u16; WORK])
-    requires widths_len_bound { (length widths.now ≤ 256) × EachWidth widths.now }
-    requires masks_to { MasksTo widths.now work.old work.old 0 }
-    ensures { MasksTo widths.now work.old work.new
-        (length widths.now) }
+fn fill_masks(program: &Accepted, work: &mut Work)
+    requires { work.old.masks ≡ replicate 256 0 }
+    ensures masks { Masks (accepted_in program.now).widths work.new }
+    ensures kept { work.new ≡ record work.old { masks = work.new.masks } }
 {
-    let mut v: usize = 0;
-    while v < widths.len() {
-        work[MASKS + v] = widths::greatest(widths, VarId(v as u16));
-        v += 1;
+    for v in 0..program.lists.vars {
+        work.masks[v as usize] = widths::greatest(program, VarId(v));
     }
 }
 
 // All that a run hands to its first cycle.
-pub fn fill(nodes: &[u16], widths: &[u16], values: &[u16], marks: &[u8], work: &mut [u16; WORK])
-    requires nodes_bound { (node_count nodes.now ≤ 1024) × (length values.now ≤ 256) × (length marks.now ≤ 1024) }
-    requires widths_len_bound { (length widths.now ≤ 256) × EachWidth widths.now }
-    requires work_value { work.old ≡ replicate 3587 0 }
-    ensures { (exprs : List ℕ) → Carried exprs nodes.now widths.now values.now
-        marks.now work.new }
+pub fn fill(program: &Accepted, values: &[u16], marks: &[u8], work: &mut Work)
+    requires values_len { length values.now ≡ (accepted_in program.now).variables }
+    requires marks_len { length marks.now ≡ node_count (accepted_in program.now).nodes }
+    requires new { work.old ≡ new_work }
+    ensures { Carried (accepted_in program.now) values.now marks.now work.new }
 {
     fill_values(values, work);
-    fill_masks(widths, work);
-    fill_parents(nodes, work);
-    work[TALLY] = marks::count_marks(marks);
+    fill_masks(program, work);
+    fill_parents(program, work);
+    work.tally = marks::count_marks(marks);
 }

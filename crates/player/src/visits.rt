@@ -1,69 +1,60 @@
 // The walks of a cycle, entry after entry: a leaf that waits is marked again, and one that completes is left.
-ghost use mathlib.Core.List.{List, foldl};
-ghost use Rattle.std.specs.Prelude.{ℕ, ◌<◌};
+ghost use mathlib.Core.List.{foldl};
+ghost use Rattle.std.specs.Prelude.{List, ℕ};
 ghost use Rattle.semantics.specs.Cycle.{visit};
+ghost use Rattle.program.specs.Accepted.{accepted_in};
 ghost use Rattle.player.specs.Begin.{state_of};
 ghost use Rattle.player.specs.Work.{Climbing};
-ghost use Rattle.player.specs.Walks.{walk_in, holds_in, Walking, Walks};
-ghost use Rattle.player.specs.Channels.{CycleOf, Paired, PairedEntry, program};
+ghost use Rattle.player.specs.Walks.{walk_in, holds_now, Walking, Walks};
+ghost use Rattle.player.specs.Channels.{CycleOf, Paired, PairedEntry};
 
-use crate::claims::CLAIMS;
-use crate::work::WORK;
+use crate::claims::Claims;
+use crate::work::Work;
 use crate::{channels, leave, marks};
+use program::Accepted;
 
 // Entry i.
+#[tactic(auto, unfolding(semantics::specs::Cycle::visit))]
 fn visit(
-    nodes: &[u16],
-    exprs: &[u16],
-    work: &mut [u16; WORK],
+    program: &Accepted,
+    work: &mut Work,
     marks: &mut [u8],
     counts: &mut [u16],
-    claims: &[u16; CLAIMS],
+    claims: &Claims,
     i: u16,
 )
-    requires by_index { (values : List ℕ)
-        × Walking exprs.now nodes.now values marks.old counts.old work.old }
-    requires paired_entry { PairedEntry nodes.now claims.now i × Climbing nodes.now work.old }
-    ensures { (values old counts₀ : List ℕ) (x : PairedEntry nodes.now claims.now i)
-        → Walking exprs.now nodes.now values marks.old counts.old
-        work.old
-        → Walks exprs.now nodes.now values work.old
-        (visit (program x.cycle) (state_of old x.cycle.marks counts₀) (holds_in exprs.now values)
-        (walk_in marks.old counts.old work.old) i)
+    requires walking { Walking (accepted_in program.now) marks.old counts.old work.old }
+    requires paired_entry { PairedEntry (accepted_in program.now) claims.now i × Climbing (accepted_in program.now).nodes work.old }
+    ensures { (old counts₀ : List ℕ) (x : PairedEntry (accepted_in program.now) claims.now i)
+        → Walks (accepted_in program.now) work.old
+        (visit (accepted_in program.now) (state_of old x.cycle.marks counts₀) (holds_now (accepted_in program.now) work.old.memo) (walk_in marks.old counts.old work.old) i)
         marks.new counts.new work.new }
 {
-    if channels::waits(nodes, claims, i) {
+    if channels::waits(program, claims, i) {
         marks::mark(work, marks, i);
     } else {
-        leave::leave(nodes, exprs, work, marks, counts, i);
+        leave::leave(program, work, marks, counts, i);
     }
 }
 
 // All entries.
 pub fn visit_all(
-    nodes: &[u16],
-    exprs: &[u16],
-    work: &mut [u16; WORK],
+    program: &Accepted,
+    work: &mut Work,
     marks: &mut [u8],
     counts: &mut [u16],
-    claims: &[u16; CLAIMS],
+    claims: &Claims,
     entries: &[u16],
 )
-    requires by_index { (values : List ℕ)
-        × Walking exprs.now nodes.now values marks.old counts.old work.old }
-    requires climbing { ((x : CycleOf nodes.now entries.now) × Paired x claims.now) × Climbing nodes.now work.old }
-    ensures { (values old counts₀ : List ℕ) (x : CycleOf nodes.now entries.now)
-        → Paired x claims.now
-        → Walking exprs.now nodes.now values marks.old counts.old
-        work.old
-        → Walks exprs.now nodes.now values work.old
-        (foldl (visit (program x) (state_of old x.marks counts₀) (holds_in exprs.now values))
-        (walk_in marks.old counts.old work.old) entries.now)
+    requires walking { Walking (accepted_in program.now) marks.old counts.old work.old }
+    requires paired { ((x : CycleOf (accepted_in program.now) entries.now) × Paired (accepted_in program.now) x.marks claims.now) × Climbing (accepted_in program.now).nodes work.old }
+    ensures { (old counts₀ : List ℕ) (x : CycleOf (accepted_in program.now) entries.now)
+        → Paired (accepted_in program.now) x.marks claims.now
+        → Walks (accepted_in program.now) work.old
+        (foldl (visit (accepted_in program.now) (state_of old x.marks counts₀) (holds_now (accepted_in program.now) work.old.memo)) (walk_in marks.old counts.old work.old) entries.now)
         marks.new counts.new work.new }
 {
-    let mut k: usize = 0;
-    while k < entries.len() {
-        visit(nodes, exprs, work, marks, counts, claims, entries[k]);
-        k += 1;
+    for &i in entries {
+        visit(program, work, marks, counts, claims, i);
     }
 }

@@ -1,39 +1,44 @@
-// The places of `work`, what a run keeps beside the lent lists (specs/Work.antt). It is one array, so that few parameters
-// go down the walks.
-ghost use Rattle.std.specs.Prelude.{◌≡◌, ◌<◌, get_or};
-ghost use Rattle.player.specs.Work.{masked_by};
+// What a run keeps beside the lent lists.
+ghost use Rattle.std.specs.Prelude.{◌≡◌, ◌<◌};
 
+use crate::memo::Memo;
 use program::VarId;
+use program::limits::{NODES_MAX, VARS_MAX};
 
-pub const VALUES: usize = 256;
-
-pub const MOMENTS: usize = 1280;
-
-pub const NOW: usize = 2304;
-
-pub const TALLY: usize = 2305;
-
-pub const LOOPED: usize = 2306;
-
-pub const PARENTS: usize = 2307;
-
-pub const MASKS: usize = 3331;
-
-pub const WORK: usize = 3587;
-
-// The value of a variable, as `work` has it.
-pub fn value_of_variable(work: &[u16; WORK], v: VarId) -> u16
-    requires { v.0 < 256 }
-    ensures { result ≡ get_or work.now v.0 0 }
-{
-    let at = v.0 as usize;
-    work[at]
+#[derive(Drop)]
+pub struct Work {
+    // The values of the variables and of expressions.
+    pub memo: Memo,
+    // How many marks stand.
+    pub tally: u16,
+    // Whether a zero-time loop was met.
+    pub looped: bool,
+    // The parents of the nodes, as their records have them: here they lie closer together.
+    pub parents: [u16; NODES_MAX],
+    // The mask of each variable: as many low bits as the variable is wide.
+    pub masks: [u16; VARS_MAX as usize],
 }
 
-// What a variable keeps of a value: as many of its low bits as the variable is wide.
-pub fn kept(work: &[u16; WORK], v: VarId, value: u16) -> u16
-    requires { v.0 < 256 }
-    ensures { result ≡ masked_by work.now v.0 value }
-{
-    value & work[MASKS + (v.0 as usize)]
+impl Work {
+    ghost use Rattle.player.specs.Work.{masked_by, new_work};
+
+    pub fn new() -> Work
+        ensures { result ≡ new_work }
+    {
+        Work {
+            memo: Memo::new(),
+            tally: 0,
+            looped: false,
+            parents: [0; NODES_MAX],
+            masks: [0; VARS_MAX as usize],
+        }
+    }
+
+    // What a variable keeps of a value.
+    pub fn kept(&self, v: VarId, value: u16) -> u16
+        requires { v.0 < 256 }
+        ensures { result ≡ masked_by self.now v.0 value }
+    {
+        value & self.masks[v.0 as usize]
+    }
 }

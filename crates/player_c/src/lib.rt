@@ -3,7 +3,8 @@
 #![tactic(auto)]
 
 ghost use Rattle.program.specs.Answer.{program_of, CheckAnswer};
-ghost use Rattle.player.specs.Word.{number_in, item_in, item_of_run_in, worked_in};
+ghost use Rattle.program.specs.Word.{number_in, item_in};
+ghost use Rattle.player.specs.Word.{item_of_run_in, worked_in};
 ghost use Rattle.player.specs.Begin.{state_of, BeginAnswer};
 ghost use Rattle.player.specs.Run.{RunAnswer};
 

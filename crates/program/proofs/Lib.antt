@@ -1,6 +1,6 @@
 pub mod AnswerLaws
 pub mod CheckLaws
-pub mod RankLaws
+pub mod ClimbLaws
+pub mod PlaceLaws
 pub mod SearchLaws
-pub mod TableLaws
 pub mod ValueLaws

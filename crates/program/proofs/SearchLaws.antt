@@ -1,44 +1,74 @@
--- Laws of a search from the front: one more index passes, an index fails, or the end is reached.
-use Rattle.std.proofs.Common.{◌≡◌, ℕ, ◌+◌, ◌<◌, ◌≤◌, Bool, true, false, not, sym, ◌∙◌, subst, inl, inr, true≢false, arith}
+-- Laws of a search for a fault: `find`, over the indices below a count, finds the rules' lowest fault, or none where every
+-- index passes. So it answers the question that is asked of each index.
+use Rattle.std.proofs.Common.{◌≡◌, ℕ, ◌<◌, ◌≤◌, Bool, true, false, not, List, Option, None, Some, Ok, Err, sym, refl, ap, ◌∙◌, subst, inl, inr, zero-le, true≢false}
 use borrow.Author.Tests.{not-true, not-false}
+use denote.Ref.{Bor}
+use denote.Param.Members.{Mut}
+use Rattle.std.specs.Bool.{⊤}
+use Rattle.std.specs.Fn.{CalledAt}
+use Rattle.std.specs.Iterator.{YieldsThen}
+use Rattle.std.specs.List.{FoldsTo}
+use Rattle.std.specs.Option.{MatchOption}
+use Rattle.std.specs.declared.ops.Range.{Range}
+use Rattle.std.proofs.iter.Yields.{nat_range_steps}
+use Rattle.std.proofs.lemmas.Iterator.{first_from_Range}
 use Rattle.semantics.specs.Numbers.{below, every}
+use Rattle.semantics.specs.Program.{Program}
 use Rattle.semantics.specs.Questions.{lowest_fault}
-use Rattle.semantics.proofs.Lists.Logic.{lt_or_le, true_or_false}
+use Rattle.semantics.specs.Check.{fault_item}
+use Rattle.semantics.specs.Facts.{IsLowestFault}
+use Rattle.semantics.proofs.Lists.Logic.{true_or_false}
+use Rattle.semantics.proofs.Lists.FaultLaws.{lowest_found, no_item}
 use Rattle.semantics.proofs.Lists.NumberLaws.{every_below, all-below}
-use Rattle.semantics.proofs.Lists.FaultLaws.{lowest_found}
-use Rattle.program.specs.Search.{Searched}
+use Rattle.program.specs.declared.refusal.Refusal.{Refusal}
+use Rattle.program.specs.Refusals.{question_number, fault_in}
+use Rattle.program.specs.Answer.{Asked}
 
-module _ (ok : ℕ → Bool) where
-  -- r is the code's test of index i
-  pub passed_more : (i : ℕ) (r : Bool) → every ok (below i) ≡ true → r ≡ ok i → not r ≡ false
-      → every ok (below (i + 1)) ≡ true
-  passed_more i r h e t = all-below ok (i + 1) (λ k u. elim (lt_or_le k i) [
-    | inl v ↦ every_below ok i h k v
-    | inr v ↦ let q : k ≡ i = omega arith in rw q (sym e ∙ not-false r t)
-  ])
+module _ (ok : ℕ → Bool) (n : ℕ) where
+  -- what std says of such a search below n
+  abbrev AllOrLowest : ℕ → Option ℕ → Type 0
+  AllOrLowest n r =
+      MatchOption r ((k : ℕ) → 0 ≤ k → k < n → ok k ≡ true)
+      (λ i. (0 ≤ i) × (i < n) × (ok i ≡ false) × ((k : ℕ) → 0 ≤ k → k < i → ok k ≡ true))
 
-  pub failed : (count i : ℕ) (r : Bool) → i ≤ count → every ok (below i) ≡ true → r ≡ ok i → not r ≡ true
-      → Searched ok count i
-  failed count i r l h e t = record { within = l; passed = h; fault = λ u. sym e ∙ not-true r t }
+  -- what the search found
+  abbrev Found : Option ℕ → Type 0
+  Found r = MatchOption r (every ok (below n) ≡ true) (IsLowestFault ok n)
 
-  pub all-passed : (count i : ℕ) → i ≤ count → count ≤ i → every ok (below i) ≡ true → Searched ok count i
-  all-passed count i l u h = record { within = l; passed = h; fault = λ v. absurd (omega arith) }
+  found : (r : Option ℕ) → AllOrLowest n r → Found r
+  found None h = all-below ok n (λ i l. h i zero-le l)
+  found (Some i) h = record { within = h.1; fails = h.2; lower_pass = λ j l. h.3 j zero-le l }
 
-  -- what a search found, as an answer of the question
-  pub found : (count i : ℕ) → Searched ok count i → i < count → every ok (below count) ≡ false
-  found count i f l = elim (true_or_false (every ok (below count))) [
-    | inl e ↦ absurd (true≢false (sym (every_below ok count e i l) ∙ f.fault l))
+  one_fails : (i : ℕ) → IsLowestFault ok n i → every ok (below n) ≡ false
+  one_fails i f = elim (true_or_false (every ok (below n))) [
+    | inl e ↦ absurd (true≢false (sym (every_below ok n e i f.within) ∙ f.fails))
     | inr e ↦ e
   ]
 
-  pub not_found : (count i : ℕ) → Searched ok count i → count ≤ i → every ok (below count) ≡ true
-  not_found count i f u =
-      let w = f.within in
-      let e : i ≡ count = omega arith in
-      subst (λ (x : ℕ). every ok (below x) ≡ true) e f.passed
+  -- ---- a search up to `end` that calls a test of faults
+  module _ {F : Type 0} {g : Mut F (Bor ℕ × Unit {0}) Bool} (end : ℕ) (whole : end ≡ n) (u : Range ℕ) (f : F)
+      (r : Option ℕ) (ran : (xs : List ℕ) × (j : F) × YieldsThen nat_range_steps (record { start = 0; end = end }) xs r u
+      × FoldsTo (λ p x q. CalledAt g p x false q) f xs j × MatchOption r ⊤ (λ x. (h : F) × CalledAt g j x true h))
+      (tests : (x : ℕ) (b : Bool) (q : F) → CalledAt g f x b q → (q ≡ f) × (b ≡ not (ok x))) where
+    searched : Found r
+    searched =
+        found r
+        (subst (λ (x : ℕ). AllOrLowest x r) whole
+        (first_from_Range _ u f r (λ i. ok i ≡ false) (λ i. ok i ≡ true) ran
+        (λ x q k. not-true _ (sym (tests x true q k).1))
+        (λ x q k. ((tests x false q k).0, not-false _ (sym (tests x false q k).1)))))
 
-  -- what was found is the rules' lowest fault
-  pub found_lowest : (count i : ℕ) → Searched ok count i → i < count → i ≡ lowest_fault ok count
-  found_lowest count i f l =
-      sym (lowest_found ok count i
-      (record { within = l; fails = f.fault l; lower_pass = every_below ok i f.passed }))
+    -- the question is answered yes where every index passes
+    module _ (P : Program) (question : ℕ) {yes : Bool} (asks : yes ≡ every ok (below n)) where
+      pub none_faulty : r ≡ None → Asked {A = Unit {0}} P question yes (Ok tt)
+      none_faulty e =
+          record { right_number = rw (asks ∙ subst Found e searched); right_item = sym (no_item P 0 refl) }
+
+      pub one_faulty : fault_item P question ≡ lowest_fault ok n → (refusal : Refusal)
+          → question_number refusal ≡ question → r ≡ Some (fault_in refusal) → Asked {A = Unit {0}} P question yes (Err refusal)
+      one_faulty item refusal q e =
+          let f : IsLowestFault ok n (fault_in refusal) = subst Found e searched in
+          record {
+            right_number = q ∙ rw (asks ∙ one_fails (fault_in refusal) f);
+            right_item = sym (ap (fault_item P) q ∙ item ∙ lowest_found ok n (fault_in refusal) f);
+          }

@@ -1,38 +1,17 @@
 -- Laws of values: there is one for each expression, and that of an expression with two operands is its op at their
--- values. And a product of two words fits twice their bits.
-use Rattle.std.proofs.Common.{◌≡◌, ℕ, zero, suc, ◌+◌, ◌*◌, ◌^◌, ◌<◌, ◌≤◌, Bool, true, false, cond, eqb, List, length, get_or, refl, ap, inl, inr, lt_of_le_of_lt, le_of_lt, mul-le-mul_left, mul-lt-mul_of_pos_right, add-one, arith, length-append, pow_pos, pow-add, ne_eqb}
-use mathlib.Core.Path.{subst⁻¹}
+-- values.
+use Rattle.std.proofs.Common.{◌≡◌, ℕ, zero, suc, ◌≤◌, Bool, true, false, cond, eqb, List, length, get_or, refl, add-one, arith, length-append, ne_eqb}
 use Rattle.semantics.specs.Program.{Op, op_of}
 use Rattle.semantics.specs.Program.Binary.{ADD, SUB, MUL, AND, EQUAL, BELOW}
 use Rattle.semantics.specs.Program.Op.{BINARY, UNKNOWN}
 use Rattle.semantics.specs.Expressions.{value_of, first_values}
-use Rattle.semantics.proofs.Lists.Logic.{lt_or_le}
-use Rattle.semantics.proofs.Lists.OpLaws.{op_number, op_variable, op_unknown}
 use Rattle.program.specs.Values.{applied}
-
--- The product of two numbers of k bits has at most k + k bits.
-pub product_fits : (k : ℕ) {x y : ℕ} → x < 2 ^ k → y < 2 ^ k → x * y < 2 ^ (k + k)
-product_fits k {x} {y} hx hy =
-    subst⁻¹ (λ (n : ℕ). x * y < n) (pow-add 2 k k)
-    (lt_of_le_of_lt (mul-le-mul_left x (le_of_lt hy)) (mul-lt-mul_of_pos_right hx (pow_pos k)))
 
 module _ (exprs values : List ℕ) where
   pub length-values : (n : ℕ) → length (first_values exprs values n) ≡ n
   unfolding first_values
   length-values zero = refl
   length-values (suc n) = simp (length-append, length-values n) (add-one n)
-
--- ---- ops by their numbers
-
--- a number that stands for no op with two operands
-pub no_operands : (w x y : ℕ) → (2 ≤ w → w ≤ 7 → ⊥) → applied (op_of w) x y ≡ 0
-no_operands zero x y h = ap (λ (o : Op). applied o x y) op_number
-no_operands (suc zero) x y h = ap (λ (o : Op). applied o x y) op_variable
-no_operands (suc (suc n)) x y h =
-    elim (lt_or_le 7 (suc (suc n))) [
-      | inl l ↦ ap (λ (o : Op). applied o x y) (op_unknown (suc (suc n)) l)
-      | inr l ↦ absurd (h (omega arith) l)
-    ]
 
 module _ (values before : List ℕ) (p q : ℕ) where
   -- the value of an expression with that op is the op at its operands' values

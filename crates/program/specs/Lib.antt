@@ -1,5 +1,8 @@
+pub mod Refusals
 pub mod Answer
+pub mod Accepted
 pub mod Word
-pub mod Search
-pub mod Ranks
+pub mod Kinds
+pub mod Ops
+pub mod Places
 pub mod Values

@@ -1,16 +1,45 @@
-// The kinds of nodes by their numbers. The leaves are ASG to OUT and DLY; IF and WHL branch on a condition.
-pub const SEQ: u16 = 1;
+// The kinds of nodes. A node's first word is the number of its kind.
+ghost use Rattle.program.specs.Kinds.{KindOfWord};
 
-pub const PAR: u16 = 2;
+// The kinds with no child: the atomic statements.
+#[derive(Clone, Copy, Debug, PartialEq, Eq)]
+pub enum Leaf {
+    Asg,
+    In,
+    Out,
+    Dly,
+}
 
-pub const ASG: u16 = 3;
+#[derive(Clone, Copy, Debug, PartialEq, Eq)]
+pub enum Kind {
+    Seq,
+    Par,
+    If,
+    Whl,
+    Leaf(Leaf),
+}
 
-pub const IN: u16 = 4;
+// A word that is no kind.
+#[derive(Clone, Copy, Debug, PartialEq, Eq)]
+pub struct UnknownKind(pub u16);
 
-pub const OUT: u16 = 5;
+impl TryFrom<u16> for Kind {
+    type Error = UnknownKind;
 
-pub const IF: u16 = 6;
+    ghost try_from_gives = { KindOfWord };
 
-pub const WHL: u16 = 7;
-
-pub const DLY: u16 = 8;
+    #[tactic(auto, unfolding(semantics::specs::Program::kind_of))]
+    fn try_from(word: u16) -> Result<Kind, UnknownKind> {
+        match word {
+            1 => Ok(Kind::Seq),
+            2 => Ok(Kind::Par),
+            3 => Ok(Kind::Leaf(Leaf::Asg)),
+            4 => Ok(Kind::Leaf(Leaf::In)),
+            5 => Ok(Kind::Leaf(Leaf::Out)),
+            6 => Ok(Kind::If),
+            7 => Ok(Kind::Whl),
+            8 => Ok(Kind::Leaf(Leaf::Dly)),
+            _ => Err(UnknownKind(word)),
+        }
+    }
+}

@@ -2,75 +2,64 @@
 // joined by `&`, which asks all of them: they are cheap, and none depends on another.
 #![tactic(auto)]
 
+mod accepted; // an accepted program
 mod expressions; // question 2
-pub mod kinds; // the numbers of the kinds
+mod kinds; // the kinds of nodes
 pub mod limits; // the limits of an accepted program
-mod names; // variables, channels and expressions of the program
 mod nodes; // question 3 at one node
-pub mod ops; // the numbers of the ops
+mod ops; // the ops of expressions
 mod parents; // parents, depths and numbers of children
 mod ranges; // question 4
+mod records; // the records of the lists
+mod refusal; // what a call refuses
 mod sizes; // question 1
 mod tree; // question 3 at all nodes
 mod values; // what an op gives
 mod widths; // question 11
 pub mod word; // the word that C gets for an answer
-pub mod words; // the words of the records
 
-ghost use Rattle.program.specs.Answer.{program_of, CheckAnswer};
+ghost use Rattle.std.specs.Prelude.{◌≡◌, IfOk};
+ghost use Rattle.program.specs.Answer.{program_in, CheckAnswer, number_of, item_of};
 
-use expressions::first_faulty_expr;
-use ranges::first_out_of_range;
-use sizes::sizes_ok;
-use tree::first_faulty_node;
+pub use accepted::Accepted;
+use expressions::ask_exprs;
+pub use kinds::{Kind, Leaf, UnknownKind};
+pub use ops::{Binary, Op, UnknownOp};
+use ranges::ask_ranges;
+pub use records::{Expr, Node};
+pub use refusal::Refusal;
+use sizes::ask_sizes;
+use tree::ask_nodes;
 pub use values::apply_op;
 use widths::ask_widths;
 
+// A program as it is lent: its lists, and how many variables and channels it has.
+#[derive(Clone, Copy, Debug)]
+pub struct Program<'a> {
+    pub exprs: &'a [u16],
+    pub nodes: &'a [u16],
+    pub widths: &'a [u16],
+    pub vars: u16,
+    pub chans: u16,
+}
+
 // The number of a variable. It is a type of its own, as a channel's is, so that neither is taken for the other.
-#[derive(Clone, Copy)]
+#[derive(Clone, Copy, Debug, PartialEq, Eq)]
 pub struct VarId(pub u16);
 
 // The number of a channel.
-#[derive(Clone, Copy)]
+#[derive(Clone, Copy, Debug, PartialEq, Eq)]
 pub struct ChanId(pub u16);
 
-// The number of the first question answered no, or 0, and the item of that number: the first fault.
-#[derive(Clone, Copy)]
-pub struct Checked {
-    pub number: u16,
-    pub item: u16,
-}
-
 // Asks questions 1 to 4 and 11, in time linear in the lengths of the lists.
-pub fn check(exprs: &[u16], nodes: &[u16], widths: &[u16], vars: u16, chans: u16) -> Checked
-    ensures { CheckAnswer (program_of exprs.now nodes.now widths.now vars chans)
-        result.number result.item }
+pub fn check<'a>(program: Program<'a>) -> Result<Accepted<'a>, Refusal>
+    ensures answer { CheckAnswer (program_in program.entry) (number_of result) (item_of result) }
+    ensures same { IfOk result (λ it. it.lists ≡ program.entry) }
 {
-    if !sizes_ok(exprs, nodes, vars, chans) {
-        return Checked { number: 1, item: 0 };
-    }
-    let expr_count = (exprs.len() / 3) as u16;
-    let node_count = (nodes.len() / 5) as u16;
-    let expr = first_faulty_expr(exprs, vars, expr_count);
-    if expr < expr_count {
-        return Checked {
-            number: 2,
-            item: expr,
-        };
-    }
-    let node = first_faulty_node(nodes, node_count);
-    if node < node_count {
-        return Checked {
-            number: 3,
-            item: node,
-        };
-    }
-    let name = first_out_of_range(exprs, nodes, vars, chans, node_count);
-    if name < node_count {
-        return Checked {
-            number: 4,
-            item: name,
-        };
-    }
-    ask_widths(widths, vars)
+    ask_sizes(&program)?;
+    ask_exprs(&program)?;
+    ask_nodes(&program)?;
+    ask_ranges(&program)?;
+    ask_widths(&program)?;
+    Ok(Accepted { lists: program })
 }

@@ -1,88 +1,89 @@
-// Question 3 at one node, whose parent, depth and number of children are known. The parent is given by its rank: one
-// more than its number, or 0 for none.
-ghost use Rattle.std.specs.Prelude.{◌≡◌, suc, ◌<◌, true, if◌then◌else◌, ◌==◌};
-ghost use Rattle.semantics.specs.Program.{kind_of, is_leaf};
-ghost use Rattle.semantics.specs.Check.{kind_ok, end_within, parent_ok, children_ok, unused_ok, node_ok};
-ghost use Rattle.program.specs.Ranks.{at_rank, Place};
+// Question 3 at one node, whose place in the tree is known.
+ghost use Rattle.std.specs.Prelude.{◌≡◌, ◌+◌, cond, true, nat_eq};
+ghost use Rattle.semantics.specs.Program.{node_count, is_leaf};
+ghost use Rattle.semantics.specs.Check.{kind_ok, end_within, end_ok, parent_ok, children_ok, unused_ok, node_ok};
+ghost use Rattle.program.specs.Kinds.{rule_kind};
+ghost use Rattle.program.specs.Places.{parent_in, IsPlace};
 
-use super::kinds::{ASG, DLY, IF, OUT, PAR, SEQ, WHL};
 use super::limits::{DEPTH_MAX, NO_PARENT};
-use super::words::{a_word, b_word, end_word, kind_word, parent_word};
-
-fn kind_ok(kind: u16) -> bool
-    ensures { result ≡ kind_ok (kind_of kind) }
-{
-    match kind {
-        SEQ..=DLY => true,
-        _ => false,
-    }
-}
+use super::tree::Place;
+use super::{Kind, Leaf, Node, Program};
 
 // A node without a parent ends with the list.
-fn end_within(nodes: &[u16], i: u16, above: u16) -> bool
-    ensures { result ≡ end_within nodes.now i (at_rank above) }
+#[tactic(auto, unfolding(semantics::specs::Check::end_within))]
+fn end_within(program: &Program, i: u16, above: Option<u16>) -> bool
+    ensures { result ≡ end_within program.now.nodes.now i (parent_in above) }
 {
-    let end = end_word(nodes, i);
-    if above == 0 {
-        return (end as usize) == nodes.len() / 5;
-    }
-    end <= end_word(nodes, above - 1)
-}
-
-fn leaf_end_ok(kind: u16, i: u16, end: u16) -> bool
-    ensures { result ≡ (if is_leaf (kind_of kind) then (end == suc i) else true) }
-{
-    match kind {
-        ASG..=OUT | DLY => (end as usize) == (i as usize) + 1,
-        _ => true,
+    let end = program.node(i).end;
+    match above {
+        Some(h) => end <= program.node(h).end,
+        None => (end as usize) == program.node_count(),
     }
 }
 
 // Only node 0 may have no parent.
-fn parent_ok(i: u16, word: u16, above: u16) -> bool
-    ensures { result ≡ parent_ok i word (at_rank above) }
+#[tactic(auto, unfolding(semantics::specs::Check::parent_ok))]
+fn parent_ok(i: u16, word: u16, above: Option<u16>) -> bool
+    ensures { result ≡ parent_ok i word (parent_in above) }
 {
-    if above == 0 {
-        return (i == 0) & (word == NO_PARENT);
-    }
-    word == above - 1
-}
-
-fn children_ok(kind: u16, n: u16) -> bool
-    ensures { result ≡ children_ok (kind_of kind) n }
-{
-    match kind {
-        SEQ => 1 <= n,
-        PAR => 2 <= n,
-        IF => (1 <= n) & (n <= 2),
-        WHL => n == 1,
-        ASG..=OUT | DLY => n == 0,
-        _ => false,
+    match above {
+        Some(h) => word == h,
+        None => (i == 0) & (word == NO_PARENT),
     }
 }
 
-fn unused_ok(kind: u16, a: u16, b: u16) -> bool
-    ensures { result ≡ unused_ok (kind_of kind) a b }
+#[tactic(auto, unfolding(semantics::specs::Check::children_ok))]
+fn children_ok(kind: Kind, n: u16) -> bool
+    ensures { result ≡ children_ok (rule_kind kind) n }
 {
     match kind {
-        SEQ..=PAR | DLY => (a == 0) & (b == 0),
-        IF..=WHL => b == 0,
-        ASG..=OUT => true,
-        _ => false,
+        Kind::Seq => 1 <= n,
+        Kind::Par => 2 <= n,
+        Kind::If => (1 <= n) & (n <= 2),
+        Kind::Whl => n == 1,
+        Kind::Leaf(_) => n == 0,
+    }
+}
+
+#[tactic(auto, unfolding(semantics::specs::Check::unused_ok))]
+fn unused_ok(kind: Kind, a: u16, b: u16) -> bool
+    ensures { result ≡ unused_ok (rule_kind kind) a b }
+{
+    match kind {
+        Kind::Seq | Kind::Par | Kind::Leaf(Leaf::Dly) => (a == 0) & (b == 0),
+        Kind::If | Kind::Whl => b == 0,
+        Kind::Leaf(_) => true,
+    }
+}
+
+fn leaf_end_ok(kind: Kind, i: u16, end: u16) -> bool
+    ensures { result ≡ cond (is_leaf (rule_kind kind)) (nat_eq end (i + 1)) true }
+{
+    match kind {
+        Kind::Leaf(_) => (end as usize) == (i as usize) + 1,
+        _ => true,
     }
 }
 
 // Node i has no fault of question 3.
-pub fn node_ok(nodes: &[u16], i: u16, above: u16, depth: u16, child_count: u16) -> bool
-    requires { Place nodes.now i above depth child_count }
-    ensures { result ≡ node_ok nodes.now i }
+pub fn node_ok(program: &Program, i: u16, place: Place) -> bool
+    requires { IsPlace program.now.nodes.now (node_count program.now.nodes.now) i place }
+    ensures { result ≡ node_ok program.now.nodes.now i }
 {
-    let kind = kind_word(nodes, i);
-    let end = end_word(nodes, i);
-    kind_ok(kind)
-        & ((i < end) & end_within(nodes, i, above) & leaf_end_ok(kind, i, end))
-        & parent_ok(i, parent_word(nodes, i), above)
-        & (depth <= DEPTH_MAX)
-        & children_ok(kind, child_count)
-        & unused_ok(kind, a_word(nodes, i), b_word(nodes, i))
+    let Node {
+        kind,
+        parent,
+        end,
+        a,
+        b,
+    } = program.node(i);
+    let Ok(kind) = Kind::try_from(kind) else {
+        return false;
+    };
+    let above = place.above();
+    ((i < end) & end_within(program, i, above) & leaf_end_ok(kind, i, end))
+        & parent_ok(i, parent, above)
+        & (place.depth <= DEPTH_MAX)
+        & children_ok(kind, place.child_count)
+        & unused_ok(kind, a, b)
 }

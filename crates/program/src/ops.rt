@@ -1,16 +1,45 @@
-// The ops of expressions by their numbers. ADD to BELOW have two operand expressions.
-pub const NUMBER: u16 = 0;
+// The ops of expressions. An expression's first word is the number of its op.
+ghost use Rattle.program.specs.Ops.{OpOfWord};
 
-pub const VARIABLE: u16 = 1;
+// The ops on two operand expressions.
+#[derive(Clone, Copy, Debug, PartialEq, Eq)]
+pub enum Binary {
+    Add,
+    Sub,
+    Mul,
+    And,
+    Equal,
+    Below,
+}
 
-pub const ADD: u16 = 2;
+#[derive(Clone, Copy, Debug, PartialEq, Eq)]
+pub enum Op {
+    Number,
+    Variable,
+    Binary(Binary),
+}
 
-pub const SUB: u16 = 3;
+// A word that is no op.
+#[derive(Clone, Copy, Debug, PartialEq, Eq)]
+pub struct UnknownOp(pub u16);
 
-pub const MUL: u16 = 4;
+impl TryFrom<u16> for Op {
+    type Error = UnknownOp;
 
-pub const AND: u16 = 5;
+    ghost try_from_gives = { OpOfWord };
 
-pub const EQUAL: u16 = 6;
-
-pub const BELOW: u16 = 7;
+    #[tactic(auto, unfolding(semantics::specs::Program::op_of))]
+    fn try_from(word: u16) -> Result<Op, UnknownOp> {
+        match word {
+            0 => Ok(Op::Number),
+            1 => Ok(Op::Variable),
+            2 => Ok(Op::Binary(Binary::Add)),
+            3 => Ok(Op::Binary(Binary::Sub)),
+            4 => Ok(Op::Binary(Binary::Mul)),
+            5 => Ok(Op::Binary(Binary::And)),
+            6 => Ok(Op::Binary(Binary::Equal)),
+            7 => Ok(Op::Binary(Binary::Below)),
+            _ => Err(UnknownOp(word)),
+        }
+    }
+}

@@ -1,20 +1,34 @@
 // Question 1: whole records, and counts within the limits.
-ghost use Rattle.std.specs.Prelude.{◌≡◌, ℕ, List};
+ghost use Rattle.std.specs.Prelude.{◌≡◌, IfOk};
+ghost use Rattle.semantics.specs.Facts.{Sized};
 ghost use Rattle.semantics.specs.Check.{sizes_ok};
-ghost use Rattle.program.specs.Answer.{program_of};
+ghost use Rattle.program.specs.Answer.{program_in, Asked};
 
 use super::limits::{CHANS_MAX, EXPRS_MAX, NODES_MAX, VARS_MAX};
+use super::{Program, Refusal};
 
-pub fn sizes_ok(exprs: &[u16], nodes: &[u16], vars: u16, chans: u16) -> bool
-    ensures { (widths : List ℕ) →
-        result ≡ sizes_ok (program_of exprs.now nodes.now widths vars chans) }
+#[tactic(auto, unfolding(semantics::specs::Check::sizes_ok))]
+fn sizes_ok(program: &Program) -> bool
+    ensures { result ≡ sizes_ok (program_in program.now) }
 {
-    let n = nodes.len() / 5;
-    (exprs.len() % 3 == 0)
-        & (nodes.len() % 5 == 0)
+    let n = program.node_count();
+    (program.exprs.len() % 3 == 0)
+        & (program.nodes.len() % 5 == 0)
         & (1 <= n)
         & (n <= NODES_MAX)
-        & (exprs.len() / 3 <= EXPRS_MAX)
-        & (vars <= VARS_MAX)
-        & (chans <= CHANS_MAX)
+        & (program.expr_count() <= EXPRS_MAX)
+        & (program.vars <= VARS_MAX)
+        & (program.chans <= CHANS_MAX)
+}
+
+#[tactic(auto, using(semantics::proofs::Lists::FaultLaws::no_item))]
+pub fn ask_sizes(program: &Program) -> Result<(), Refusal>
+    ensures asked { Asked (program_in program.now) 1 (sizes_ok (program_in program.now)) result }
+    ensures sized { IfOk result (λ _. Sized (program_in program.now)) }
+{
+    if sizes_ok(program) {
+        Ok(())
+    } else {
+        Err(Refusal::Sizes)
+    }
 }

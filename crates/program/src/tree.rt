@@ -1,51 +1,77 @@
 // Question 3 at all nodes: kinds, ends, parents, depths, numbers of children and unused words.
 ghost use Rattle.std.specs.Prelude.{◌≡◌, ◌≤◌};
 ghost use Rattle.semantics.specs.Program.{node_count};
+ghost use Rattle.semantics.specs.Numbers.{below, every};
 ghost use Rattle.semantics.specs.Check.{node_ok};
-ghost use Rattle.program.specs.Ranks.{Tables};
-ghost use Rattle.program.specs.Search.{Searched};
+ghost use Rattle.semantics.specs.Facts.{Sized};
+ghost use Rattle.program.specs.Answer.{program_in, Asked};
+ghost use Rattle.program.specs.Places.{Places, parent_in, parent_of_word};
 
-use super::limits::NODES_MAX;
+use super::limits::{NO_PARENT, NODES_MAX};
 use super::nodes::node_ok;
-use super::parents::fill_tables;
-use super::words::word_at;
+use super::parents::parent_of;
+use super::{Program, Refusal};
 
-// One rank for each node, and rank 0.
-const RANKS: usize = NODES_MAX + 1;
-
-fn first_faulty_in_tables(
-    nodes: &[u16],
-    count: u16,
-    parents: &[u16],
-    depths: &[u16],
-    children: &[u16],
-) -> u16
-    requires count_value { count ≡ node_count nodes.now }
-    requires tables { Tables nodes.now count parents.now depths.now children.now }
-    ensures { Searched (node_ok nodes.now) count result }
-{
-    let mut i: u16 = 0;
-    while i < count {
-        let rank = (i as usize) + 1;
-        let above = word_at(parents, rank);
-        let depth = word_at(depths, rank);
-        let child_count = word_at(children, rank);
-        if !node_ok(nodes, i, above, depth, child_count) {
-            return i;
-        }
-        i += 1;
-    }
-    i
+// Where a node stands: its parent word, its depth and the number of its children. An Option for the parent would make the
+// table of places a third larger, and with it the stack that check takes.
+#[derive(Clone, Copy, Debug, Default)]
+pub struct Place {
+    pub parent: u16,
+    pub depth: u16,
+    pub child_count: u16,
 }
 
-// The first node that has a fault of question 3, or count.
-pub fn first_faulty_node(nodes: &[u16], count: u16) -> u16
-    requires { (count ≡ node_count nodes.now) × (count ≤ 1024) }
-    ensures { Searched (node_ok nodes.now) count result }
+impl Place {
+    pub fn above(self) -> Option<u16>
+        ensures { parent_in result ≡ parent_of_word self.parent }
+    {
+        if self.parent == NO_PARENT {
+            None
+        } else {
+            Some(self.parent)
+        }
+    }
+}
+
+// Places the nodes below count, in the caller's table: one that is returned would be copied, and be on the stack twice. What
+// the table holds before is not read.
+#[tactic(auto, using(crate::proofs::PlaceLaws::parent_fits, crate::proofs::PlaceLaws::parent_low))]
+fn place_nodes(program: &Program, places: &mut [Place; NODES_MAX], count: u16)
+    requires { count ≤ 1024 }
+    ensures { Places program.now.nodes.now count places.new }
 {
-    let mut parents = [0u16; RANKS];
-    let mut depths = [0u16; RANKS];
-    let mut children = [0u16; RANKS];
-    fill_tables(nodes, count, &mut parents, &mut depths, &mut children);
-    first_faulty_in_tables(nodes, count, &parents, &depths, &children)
+    for i in 0..count {
+        let above = parent_of(program, places, i);
+        let depth = match above {
+            Some(h) => {
+                let parent = places[h as usize];
+                places[h as usize] = Place {
+                    child_count: parent.child_count + 1,
+                    ..parent
+                };
+                parent.depth + 1
+            }
+            None => 1,
+        };
+        places[i as usize] = Place {
+            parent: above.unwrap_or(NO_PARENT),
+            depth,
+            child_count: 0,
+        };
+    }
+}
+
+// The first node that has a fault of question 3.
+pub fn ask_nodes(program: &Program) -> Result<(), Refusal>
+    requires { Sized (program_in program.now) }
+    ensures { Asked (program_in program.now) 3
+        (every (node_ok program.now.nodes.now) (below (node_count program.now.nodes.now))) result }
+{
+    let count = program.node_count() as u16;
+    let mut places = [Place::default(); NODES_MAX];
+    place_nodes(program, &mut places, count);
+    match (0..count).find(|&i| !node_ok(program, i, places[i as usize])) {
+        Some(i) => Err(Refusal::Node(i)),
+        None => Ok(()),
+    }
 }

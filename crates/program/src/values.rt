@@ -1,59 +1,34 @@
 // What an op gives at the values of its two operands.
-ghost use Rattle.std.specs.Prelude.{◌≡◌, ◌*◌, ◌%◌, ◌≤◌};
+ghost use Rattle.std.specs.Prelude.{◌≡◌};
 ghost use Rattle.semantics.specs.Program.{op_of};
-ghost use Rattle.semantics.specs.Expressions.{bit};
+ghost use Rattle.semantics.specs.Expressions.{apply};
+ghost use Rattle.program.specs.Ops.{rule_binary};
 ghost use Rattle.program.specs.Values.{applied};
 
-use super::ops::{ADD, BELOW, EQUAL, MUL, SUB};
+use super::{Binary, Op};
 
-// The product, which wraps at 65,536.
-fn product(x: u16, y: u16) -> u16
-    ensures { result ≡ (x * y) % 65536 }
-{
-    let whole = (x as u32) * (y as u32);
-    (whole % 65536) as u16
+impl Binary {
+    #[tactic(auto, unfolding(semantics::specs::Expressions::apply))]
+    pub fn apply(self, x: u16, y: u16) -> u16
+        ensures { result ≡ apply (rule_binary self) x y }
+    {
+        match self {
+            Binary::Add => x.wrapping_add(y),
+            Binary::Sub => x.wrapping_sub(y),
+            Binary::Mul => x.wrapping_mul(y),
+            Binary::And => x & y,
+            Binary::Equal => u16::from(x == y),
+            Binary::Below => u16::from(x < y),
+        }
+    }
 }
 
-// 1 for true, 0 for false.
-fn one_if(holds: bool) -> u16
-    ensures { result ≡ bit holds }
-{
-    if holds { 1 } else { 0 }
-}
-
-// An op of two operands, ADD to BELOW, at their values; any other gives 0. Tests in place of a match: which op comes next
-// is then predicted well, where a jump through a table is not.
+// An op by its word, at the values of its operands; what has no two operands gives 0.
 pub fn apply_op(op: u16, x: u16, y: u16) -> u16
     ensures { result ≡ applied (op_of op) x y }
 {
-    if op < MUL {
-        if op == ADD {
-            return std::num::wrapping_add_u16(x, y);
-        }
-        if op == SUB {
-            return std::num::wrapping_sub_u16(x, y);
-        }
-        return 0;
+    match Op::try_from(op) {
+        Ok(Op::Binary(op)) => op.apply(x, y),
+        _ => 0,
     }
-    if op < EQUAL {
-        if op == MUL {
-            return product(x, y);
-        }
-        return x & y;
-    }
-    compare_op(op, x, y)
-}
-
-// The same of an op from EQUAL on.
-fn compare_op(op: u16, x: u16, y: u16) -> u16
-    requires { 6 ≤ op }
-    ensures { result ≡ applied (op_of op) x y }
-{
-    if op == EQUAL {
-        return one_if(x == y);
-    }
-    if op == BELOW {
-        return one_if(x < y);
-    }
-    0
 }

@@ -1,52 +1,27 @@
 // Question 11: a width for each variable, from 1 to 16.
-ghost use Rattle.std.specs.Prelude.{◌≡◌, ℕ, List, if◌then◌else◌};
-ghost use Rattle.semantics.specs.Widths.{width_at, width_ok, widths_ok};
-ghost use Rattle.semantics.specs.Check.{fault_item};
-ghost use Rattle.program.specs.Answer.{program_of};
-ghost use Rattle.program.specs.Search.{Searched};
+ghost use Rattle.std.specs.Prelude.{◌≡◌};
+ghost use Rattle.semantics.specs.Widths.{width_ok, widths_ok};
+ghost use Rattle.program.specs.Answer.{program_in, Asked};
 
 use super::limits::WIDTH_MAX;
-use super::words::width_word;
-use super::{Checked, VarId};
+use super::{Program, Refusal, VarId};
 
+#[tactic(auto, unfolding(semantics::specs::Widths::width_ok))]
 fn width_ok(width: u16) -> bool
     ensures { result ≡ width_ok width }
 {
-    (1 <= width) & (width <= WIDTH_MAX)
+    (1..=WIDTH_MAX).contains(&width)
 }
 
-// The first of the variables below count whose width is outside 1 to 16, or count.
-fn first_faulty_width(widths: &[u16], count: u16) -> u16
-    ensures { Searched (λ (v : ℕ). width_ok (width_at widths.now v)) count result }
+// The first variable whose width is outside 1 to 16; 0 where there are not as many widths as variables.
+pub fn ask_widths(program: &Program) -> Result<(), Refusal>
+    ensures { Asked (program_in program.now) 11 (widths_ok (program_in program.now)) result }
 {
-    let mut v: u16 = 0;
-    while v < count {
-        if !width_ok(width_word(widths, VarId(v))) {
-            return v;
-        }
-        v += 1;
+    if program.widths.len() != program.vars as usize {
+        return Err(Refusal::Width(0));
     }
-    v
-}
-
-// The answer of check where every question before is answered yes.
-pub fn ask_widths(widths: &[u16], vars: u16) -> Checked
-    ensures { (exprs nodes : List ℕ) (chans : ℕ) →
-        let P = program_of exprs nodes widths.now vars chans in
-        (result.number ≡ (if widths_ok P then 0 else 11)) × (result.item ≡ fault_item P result.number) }
-{
-    if widths.len() != vars as usize {
-        return Checked {
-            number: 11,
-            item: 0,
-        };
+    match (0..program.vars).find(|&v| !width_ok(program.width(VarId(v)))) {
+        Some(v) => Err(Refusal::Width(v)),
+        None => Ok(()),
     }
-    let variable = first_faulty_width(widths, vars);
-    if variable < vars {
-        return Checked {
-            number: 11,
-            item: variable,
-        };
-    }
-    Checked { number: 0, item: 0 }
 }

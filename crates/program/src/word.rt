@@ -1,9 +1,16 @@
 // The word that a call gives to C as its answer.
 ghost use Rattle.std.specs.Prelude.{◌≡◌};
+ghost use Rattle.program.specs.Answer.{number_of, item_of};
 ghost use Rattle.program.specs.Word.{number_in, item_in};
 
-pub fn word_of(number: u16, item: u16) -> u32
-    ensures { (number_in result ≡ number) × (item_in result ≡ item) }
+use super::Refusal;
+
+pub fn word_of(answer: Result<(), Refusal>) -> u32
+    ensures number { number_in result ≡ number_of answer }
+    ensures item { item_in result ≡ item_of answer }
 {
-    (number as u32) + 65536 * (item as u32)
+    match answer {
+        Ok(()) => 0,
+        Err(refusal) => u32::from(refusal.number()) + 65536 * u32::from(refusal.item()),
+    }
 }

@@ -1,96 +1,41 @@
--- `check` gives the first question answered no, with what the search for that question found.
-use Rattle.std.proofs.Common.{◌≡◌, ℕ, ◌<◌, ◌≤◌, Bool, true, cond, sym, ◌∙◌, arith, rules}
-use Rattle.semantics.specs.Numbers.{below, every}
-use Rattle.semantics.specs.Program.{Program, expr_count, node_count}
-use Rattle.semantics.specs.Widths.{widths_ok}
-use Rattle.semantics.specs.Check.{sizes_ok, expr_ok, node_ok, references_ok, fault_item}
-use Rattle.semantics.specs.Facts.{Sized}
-use Rattle.semantics.proofs.Lists.QuestionLaws.{sized_limits}
-use Rattle.program.specs.Answer.{CheckAnswer}
-use Rattle.program.specs.Search.{Searched}
-use Rattle.program.proofs.CheckLaws.{answer_1, answer_2, answer_3, answer_4, answer_last}
-use Rattle.program.proofs.SearchLaws.{not_found}
+-- `check` asks one question after the other, and `?` passes on the first refusal.
+use Rattle.program.specs.Answer.{program_in}
+use Rattle.program.proofs.CheckLaws.{refused, first_1, first_2, first_3, first_4, first_11, none_no}
 use Rattle.program.proofs.check.Goals as goal
 
--- what the code's tests and searches find, question after question, and the answer where one is answered no
-module _ (P : Program) {sized : Bool} (right : sized ≡ sizes_ok P) (yes : sized ≡ true) where
-  -- ---- question 1 is answered yes
-  sizes : sizes_ok P ≡ true
-  sizes = sym right ∙ yes
+pub returns-in_err-ask_sizes-clause-answer : goal.returns-in_err-ask_sizes-clause-answer
+returns-in_err-ask_sizes-clause-answer c =
+    let P = program_in c.args.program in
+    refused P _ _ c.from_residual.ensures 1 _ c.in_err-ask_sizes.ensures.asked (first_1 P)
 
-  limits : Sized P
-  limits = sized_limits P sizes
+pub returns-in_err-ask_exprs-clause-answer : goal.returns-in_err-ask_exprs-clause-answer
+returns-in_err-ask_exprs-clause-answer c =
+    let P = program_in c.args.program in
+    refused P _ _ c.from_residual-in_err-ask_exprs.ensures 2 _ c.in_err-ask_exprs.ensures
+    (first_2 P c.in_ok-ask_sizes.ensures.asked)
 
-  -- ---- the expressions are searched
-  module _ {expr : ℕ} (exprs_searched : Searched (expr_ok P) (expr_count P.exprs) expr) where
-    faulty_expr : expr < expr_count P.exprs → CheckAnswer P 2 expr
-    faulty_expr = answer_2 P sizes expr exprs_searched
+pub returns-in_err-ask_nodes-clause-answer : goal.returns-in_err-ask_nodes-clause-answer
+returns-in_err-ask_nodes-clause-answer c =
+    let P = program_in c.args.program in
+    refused P _ _ c.from_residual-in_err-ask_nodes.ensures 3 _ c.in_err-ask_nodes.ensures
+    (first_3 P c.in_ok-ask_sizes.ensures.asked c.in_ok-ask_exprs.ensures)
 
-    -- ---- question 2 is answered yes, for no expression was found; the nodes are searched
-    module _ {node : ℕ} (no_expr : expr_count P.exprs ≤ expr)
-        (nodes_searched : Searched (node_ok P.nodes) (node_count P.nodes) node) where
-      exprs : every (expr_ok P) (below (expr_count P.exprs)) ≡ true
-      exprs = not_found _ _ expr exprs_searched no_expr
+pub returns-in_err-ask_ranges-clause-answer : goal.returns-in_err-ask_ranges-clause-answer
+returns-in_err-ask_ranges-clause-answer c =
+    let P = program_in c.args.program in
+    refused P _ _ c.from_residual-in_err-ask_ranges.ensures 4 _ c.in_err-ask_ranges.ensures
+    (first_4 P c.in_ok-ask_sizes.ensures.asked c.in_ok-ask_exprs.ensures c.in_ok-ask_nodes.ensures)
 
-      faulty_node : node < node_count P.nodes → CheckAnswer P 3 node
-      faulty_node = answer_3 P sizes exprs node nodes_searched
+pub returns-in_err-ask_widths-clause-answer : goal.returns-in_err-ask_widths-clause-answer
+returns-in_err-ask_widths-clause-answer c =
+    let P = program_in c.args.program in
+    refused P _ _ c.from_residual-in_err-ask_widths.ensures 11 _ c.in_err-ask_widths.ensures
+    (first_11 P c.in_ok-ask_sizes.ensures.asked c.in_ok-ask_exprs.ensures c.in_ok-ask_nodes.ensures
+    c.in_ok-ask_ranges.ensures)
 
-      -- ---- question 3 is answered yes, for no node was found; the names are searched
-      module _ {name : ℕ} (no_node : node_count P.nodes ≤ node)
-          (names_searched : Searched (references_ok P) (node_count P.nodes) name) where
-        nodes : every (node_ok P.nodes) (below (node_count P.nodes)) ≡ true
-        nodes = not_found _ _ node nodes_searched no_node
-
-        faulty_name : name < node_count P.nodes → CheckAnswer P 4 name
-        faulty_name = answer_4 P sizes exprs nodes name names_searched
-
-        -- ---- question 4 is answered yes, for no name was found; question 11 is asked
-        widths_asked : node_count P.nodes ≤ name → {number item : ℕ}
-            → number ≡ cond (widths_ok P) 0 11 → item ≡ fault_item P number → CheckAnswer P number item
-        widths_asked no_name = answer_last P sizes exprs nodes (not_found _ _ name names_searched no_name)
-
--- ---- the answers
-pub returns-then-not-sizes_ok : goal.returns-then-not-sizes_ok
-returns-then-not-sizes_ok c = answer_1 _ (sym (c.sizes_ok.ensures c.args.widths.now) ∙ c.if-not-sizes_ok.true)
-
-pub overflow_cast-expr_count : goal.overflow_cast-expr_count
-overflow_cast-expr_count c =
-    omega (arith, (limits _ (c.sizes_ok.ensures c.args.widths.now) c.if-not-sizes_ok.false).exprs_fit)
-
-pub overflow_cast-node_count : goal.overflow_cast-node_count
-overflow_cast-node_count c =
-    omega (arith, (limits _ (c.sizes_ok.ensures c.args.widths.now) c.if-not-sizes_ok.false).nodes_fit)
-
-pub returns-then-expr-expr_count : goal.returns-then-expr-expr_count
-returns-then-expr-expr_count c =
-    let x = c.args in
-    faulty_expr _ (c.sizes_ok.ensures x.widths.now) c.if-not-sizes_ok.false
-    (c.first_faulty_expr-expr.ensures x.nodes.now x.widths.now x.chans) c.if-expr-expr_count.true
-
-pub first_faulty_node-node-requires : goal.first_faulty_node-node-requires
-first_faulty_node-node-requires c =
-    (search rules, (limits _ (c.sizes_ok.ensures c.args.widths.now) c.if-not-sizes_ok.false).nodes_fit)
-
-pub returns-then-node-node_count : goal.returns-then-node-node_count
-returns-then-node-node_count c =
-    let x = c.args in
-    faulty_node _ (c.sizes_ok.ensures x.widths.now) c.if-not-sizes_ok.false
-    (c.first_faulty_expr-expr.ensures x.nodes.now x.widths.now x.chans) c.if-expr-expr_count.false
-    c.first_faulty_node-node.ensures c.if-node-node_count.true
-
-pub returns-then-name-node_count : goal.returns-then-name-node_count
-returns-then-name-node_count c =
-    let x = c.args in
-    faulty_name _ (c.sizes_ok.ensures x.widths.now) c.if-not-sizes_ok.false
-    (c.first_faulty_expr-expr.ensures x.nodes.now x.widths.now x.chans) c.if-expr-expr_count.false
-    c.first_faulty_node-node.ensures c.if-node-node_count.false
-    (c.first_out_of_range-name.ensures x.widths.now) c.if-name-node_count.true
-
-pub returns : goal.returns
-returns c =
-    let x = c.args in
-    let asked = c.ask_widths.ensures x.exprs.now x.nodes.now x.chans in
-    widths_asked _ (c.sizes_ok.ensures x.widths.now) c.if-not-sizes_ok.false
-    (c.first_faulty_expr-expr.ensures x.nodes.now x.widths.now x.chans) c.if-expr-expr_count.false
-    c.first_faulty_node-node.ensures c.if-node-node_count.false
-    (c.first_out_of_range-name.ensures x.widths.now) c.if-name-node_count.false asked.0 asked.1
+-- no question is answered no, so the program is accepted
+pub invariant_of-result : goal.invariant_of-result
+invariant_of-result c = record {
+  accepted = none_no (program_in c.args.program) c.in_ok-ask_sizes.ensures.asked c.in_ok-ask_exprs.ensures
+      c.in_ok-ask_nodes.ensures c.in_ok-ask_ranges.ensures c.in_ok-ask_widths.ensures;
+}

@@ -1,34 +1,42 @@
 -- `fill_all` takes each part from its place; the buffers are long enough.
-use native.Mathlib.Omega.{arith}
-use Rattle.semantics.proofs.Files.FileLaws.{file_least}
+use Rattle.std.proofs.Common.{arith}
 use Rattle.paper.proofs.ReaderLaws.{placed, parts_taken}
 use Rattle.paper.proofs.reader.fill_all.Goals as goal
 
-pub sizes_in-sizes-requires : goal.sizes_in-sizes-requires
-sizes_in-sizes-requires c = file_least _ c.requires.0
-
 pub take_words-requires : goal.take_words-requires
 take_words-requires c =
-    let p = placed _ c.requires.0 _ c.sizes_in-sizes.ensures _ c.requires.1 in
-    (omega (arith, p.size), omega (arith, p.exprs))
+    let (ok, right) = c.requires.is_file in
+    let p = placed _ ok _ right _ c.requires.fit in
+    let l = c.lengths-e.ensures in
+    (omega (arith, p.size, l.exprs), omega (arith, p.exprs, l.exprs))
 
 pub take_words-requires-2 : goal.take_words-requires-2
 take_words-requires-2 c =
-    let p = placed _ c.requires.0 _ c.sizes_in-sizes.ensures _ c.requires.1 in
-    (omega (arith, p.size), omega (arith, p.nodes))
+    let (ok, right) = c.requires.is_file in
+    let p = placed _ ok _ right _ c.requires.fit in
+    let l = c.lengths-e.ensures in
+    (omega (arith, p.size, l.exprs, l.nodes), omega (arith, p.nodes, l.nodes))
 
 pub take_words-requires-3 : goal.take_words-requires-3
 take_words-requires-3 c =
-    let p = placed _ c.requires.0 _ c.sizes_in-sizes.ensures _ c.requires.1 in
-    (omega (arith, p.size), omega (arith, p.values))
+    let (ok, right) = c.requires.is_file in
+    let p = placed _ ok _ right _ c.requires.fit in
+    let l = c.lengths-e.ensures in
+    (omega (arith, p.size, l.exprs, l.nodes, l.vars), omega (arith, p.values, l.vars))
 
 pub take_words-requires-4 : goal.take_words-requires-4
 take_words-requires-4 c =
-    let p = placed _ c.requires.0 _ c.sizes_in-sizes.ensures _ c.requires.1 in
-    (omega (arith, p.size), omega (arith, p.widths))
+    let (ok, right) = c.requires.is_file in
+    let p = placed _ ok _ right _ c.requires.fit in
+    let l = c.lengths-e.ensures in
+    (omega (arith, p.size, l.exprs, l.nodes, l.vars), omega (arith, p.widths, l.vars))
 
 pub returns : goal.returns
 returns c =
-    parts_taken _ c.requires.0 _ c.sizes_in-sizes.ensures _ _
-    c.take_words.ensures c.take_words-2.ensures c.take_words-3.ensures
-    c.take_words-4.ensures
+    let (ok, right) = c.requires.is_file in
+    let l = c.lengths-e.ensures in
+    parts_taken _ ok _ right _ _
+    (rw (← l.exprs) c.take_words.ensures)
+    (rw (← l.exprs, ← l.nodes) c.take_words-2.ensures)
+    (rw (← l.exprs, ← l.nodes, ← l.vars) c.take_words-3.ensures)
+    (rw (← l.exprs, ← l.nodes, ← l.vars) c.take_words-4.ensures)

@@ -1,6 +1,6 @@
 -- `take_words` takes one word a turn.
 use mathlib.Core.Path.{◌≡◌}
-use Prim.Native.Nat.{◌-◌, ◌≤◌}
+use Prim.Native.Nat.{◌≤◌}
 use lib.ListN.{length, drop}
 use lib.Seq.{paste}
 use Rattle.semantics.specs.Bytes.{words_of}
@@ -10,6 +10,3 @@ abbrev pub invariant-loop-i : goal.invariant-loop-i
 invariant-loop-i l =
     (l.i ≤ l.count) × (length l.list ≡ length l.initial.list)
     × (l.list ≡ paste l.initial.list 0 (drop l.from (words_of l.file)) l.i)
-
-abbrev pub decreases-loop-i : goal.decreases-loop-i
-decreases-loop-i l = l.count - l.i

@@ -12,10 +12,10 @@ pub returns : goal.returns
 unfolding bytes_of
 returns c =
     let a = c.args in
-    let es : List ℕ = a.exprs.now in
-    let ns : List ℕ = a.nodes.now in
+    let es : List ℕ = a.program.exprs.now in
+    let ns : List ℕ = a.program.nodes.now in
     let vs : List ℕ = a.values.now in
-    let ws : List ℕ = a.widths.now in
+    let ws : List ℕ = a.program.widths.now in
     let file : List ℕ = a.file.now in
     let two : length (es ++ ns) ≡ length es + length ns = length-append es ns in
     let three : length (es ++ ns ++ vs) ≡ length (es ++ ns) + length vs = length-append (es ++ ns) vs in

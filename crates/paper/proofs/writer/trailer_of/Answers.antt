@@ -6,4 +6,4 @@ pub returns : goal.returns
 returns c =
     let back = c.distances_of-back.ensures in
     let sizes = c.args.sizes in
-    λ i. sizes.nodes ∷ sizes.exprs ∷ sizes.vars ∷ sizes.chans ∷ back.0 i ∷ back.1 i ∷ back.2 i ∷ back.3 i ∷ []
+    λ i. sizes.nodes ∷ sizes.exprs ∷ sizes.vars ∷ sizes.chans ∷ back.exprs i ∷ back.nodes i ∷ back.values i ∷ back.widths i ∷ []

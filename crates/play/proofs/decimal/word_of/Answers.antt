@@ -1,30 +1,34 @@
 -- `decimal::word_of` meets its contract: at each byte, what is left of the digits says the word or no word.
-use Rattle.std.proofs.Common.{pos_of_ne-zero}
-use Rattle.play.proofs.DecimalLaws.{none, start, below, above, further, past_words, whole}
+use Rattle.std.proofs.Common.{sym, ◌∙◌, arith}
+use Rattle.play.proofs.DecimalLaws.{none, start, no_digit, further, past_words, whole}
 use Rattle.play.proofs.decimal.word_of.Goals as goal
 
-pub returns-then-digits-eq0 : goal.returns-then-digits-eq0
-returns-then-digits-eq0 c = none _ c.if-digits-eq0.true
+pub returns-then-is_empty : goal.returns-then-is_empty
+returns-then-is_empty c = none _ c.if-is_empty.ensures
 
-pub loop-i-init : goal.loop-i-init
-loop-i-init c = start c.args.digits.now (pos_of_ne-zero c.if-digits-eq0.false)
+pub loop-digit-init : goal.loop-digit-init
+loop-digit-init c = start _ c.if-is_empty.ensures
 
-pub returns-then-digit-lt48 : goal.returns-then-digit-lt48
-returns-then-digit-lt48 c = below _ _ _ c.loop-i.invariant c.loop-i-test.true c.if-digit-lt48.true
+pub returns-then-not-is_ascii_digit : goal.returns-then-not-is_ascii_digit
+returns-then-not-is_ascii_digit c =
+    no_digit _ _ _ c.loop-digit.invariant c.loop-digit-test.true (sym c.if-not-is_ascii_digit.ensures.value)
 
-pub returns-then-digit-gt57 : goal.returns-then-digit-gt57
-returns-then-digit-gt57 c = above _ _ _ c.loop-i.invariant c.loop-i-test.true c.if-digit-gt57.true
+pub returns-in_err-checked_mul : goal.returns-in_err-checked_mul
+returns-in_err-checked_mul c =
+    c.from_residual.ensures ∙ past_words _ _ _ c.loop-digit.invariant c.loop-digit-test.true
+    (sym c.if-not-is_ascii_digit.ensures.value) (omega (arith, c.in_err-checked_mul.ensures))
 
-pub returns-then-value-gt65535 : goal.returns-then-value-gt65535
-returns-then-value-gt65535 c =
-    past_words _ _ _ c.loop-i.invariant c.loop-i-test.true c.if-digit-lt48.false c.if-digit-gt57.false
-    (rw c.widened.ensures at c.if-value-gt65535.true)
+pub returns-in_err-value : goal.returns-in_err-value
+returns-in_err-value c =
+    c.from_residual-in_err-value.ensures ∙ past_words _ _ _ c.loop-digit.invariant c.loop-digit-test.true
+    (sym c.if-not-is_ascii_digit.ensures.value)
+    (omega (arith, c.in_err-value.ensures, c.in_ok-checked_mul.ensures.1, c.from.ensures))
 
-pub loop-i-preserved : goal.loop-i-preserved
-loop-i-preserved c =
-    rw c.widened.ensures
-    (further _ _ _ c.loop-i.invariant c.loop-i-test.true c.if-digit-lt48.false c.if-digit-gt57.false
-    (rw c.widened.ensures at c.if-value-gt65535.false))
+pub loop-digit-preserved : goal.loop-digit-preserved
+loop-digit-preserved c =
+    further _ _ _ c.loop-digit.invariant c.loop-digit-test.true _ (sym c.if-not-is_ascii_digit.ensures.value)
+    (omega (arith, c.in_ok-value.ensures.1, c.in_ok-checked_mul.ensures.1, c.from.ensures))
+    (omega (arith, c.in_ok-value.ensures.0, c.in_ok-value.ensures.1))
 
 pub returns : goal.returns
-returns c = whole _ _ _ c.loop-i.invariant c.loop-i-test.false
+returns c = whole _ _ _ c.loop-digit.invariant c.loop-digit-test.false

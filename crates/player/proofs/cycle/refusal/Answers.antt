@@ -1,14 +1,10 @@
 -- `refusal` crosses the other entries out as far as it can, and marks again all that are crossed out.
-use mathlib.Core.Path.{◌≡◌, sym, ap, ◌∙◌}
-use mathlib.Core.Bool.{cond}
-use mathlib.Core.List.{List}
-use Prim.Native.Nat.{ℕ, ◌+◌, ◌≤◌, ◌<◌}
-use native.Mathlib.Omega.{arith}
+use Rattle.std.proofs.Common.{◌≡◌, ℕ, ◌+◌, ◌≤◌, ◌<◌, cond, List, length, take, drop, sym, ap, ◌∙◌, arith}
+use Rattle.std.proofs.lemmas.List.{take_rest}
 use lib.Dec.{ltb}
-use lib.ListN.{length, take, drop}
 use borrow.Author.Tests.{lt-ltb, le-ltb}
+use Rattle.program.specs.declared.refusal.Refusal.TheVariants.{Entries, Channels}
 use Rattle.player.specs.Entries.{crossable, set_all, CrossedOut}
-use Rattle.player.proofs.PartLaws.{part_from}
 use Rattle.player.proofs.EntryLaws.{set_all-more, crossable_most, part_length, part_inside, crossed_back}
 use Rattle.player.proofs.cycle.refusal.Goals as goal
 
@@ -35,30 +31,28 @@ module _ {entries marks lent : List ℕ} {passed more : ℕ} (h : CrossedOut ent
       ∙ crossed_back marks entries (passed + more) all
 
   -- question 7 refuses where not all entries could be crossed out, and question 8 where all could
-  seven : passed + more < length entries
-      → ◌≡◌ {A = ℕ} 7 (cond (ltb (crossable marks entries) (length entries)) 7 8)
+  seven : passed + more < length entries → Entries ≡ cond (ltb (crossable marks entries) (length entries)) Entries Channels
   seven l = sym (rw (← all, lt-ltb (passed + more) (length entries) l))
 
-  eight : length entries ≤ passed + more
-      → ◌≡◌ {A = ℕ} 8 (cond (ltb (crossable marks entries) (length entries)) 7 8)
+  eight : length entries ≤ passed + more → Channels ≡ cond (ltb (crossable marks entries) (length entries)) Entries Channels
   eight l = sym (rw (← all, le-ltb (passed + more) (length entries) l))
 
 pub overflow_add-crossed : goal.overflow_add-crossed
 overflow_add-crossed c =
     let (marks, h) = c.requires in
-    let fits = most h (rw (part_from c.args.entries.now c.args.passed) at c.cross_out.ensures.value) in
+    let fits = most h (rw (take_rest c.args.entries.now c.args.passed) at c.cross_out.ensures.value) in
     omega arith
 
 pub slice_bounds-mark_again-end : goal.slice_bounds-mark_again-end
 slice_bounds-mark_again-end c =
     let (marks, h) = c.requires in
     part_length marks c.args.entries.now (c.args.passed + c.cross_out.result)
-    (all h (rw (part_from c.args.entries.now c.args.passed) at c.cross_out.ensures.value))
+    (all h (rw (take_rest c.args.entries.now c.args.passed) at c.cross_out.ensures.value))
 
 pub mark_again-requires : goal.mark_again-requires
 mark_again-requires c =
     let (marks, h) = c.requires in
-    let told = rw (part_from c.args.entries.now c.args.passed) at c.cross_out.ensures.value in
+    let told = rw (take_rest c.args.entries.now c.args.passed) at c.cross_out.ensures.value in
     let same = c.cross_out.auto.marks in
     let kept = h.same_length in
     λ k l.
@@ -67,10 +61,10 @@ mark_again-requires c =
 
 pub returns-then-crossed-entries : goal.returns-then-crossed-entries
 returns-then-crossed-entries c = λ marks h.
-    let told = rw (part_from c.args.entries.now c.args.passed) at c.cross_out.ensures in
+    let told = rw (take_rest c.args.entries.now c.args.passed) at c.cross_out.ensures in
     (back h told.value told.marks_after c.mark_again.ensures, seven h told.value c.if-crossed-entries.true)
 
 pub returns-else-crossed-entries : goal.returns-else-crossed-entries
 returns-else-crossed-entries c = λ marks h.
-    let told = rw (part_from c.args.entries.now c.args.passed) at c.cross_out.ensures in
+    let told = rw (take_rest c.args.entries.now c.args.passed) at c.cross_out.ensures in
     (back h told.value told.marks_after c.mark_again.ensures, eight h told.value c.if-crossed-entries.false)

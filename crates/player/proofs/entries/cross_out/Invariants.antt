@@ -1,11 +1,6 @@
 -- `cross_out` crosses one entry out a turn: the first k are crossed out.
-use Prim.Native.Nat.{◌-◌}
-use lib.ListN.{length}
 use Rattle.player.specs.Entries.{CrossedOut}
 use Rattle.player.proofs.entries.cross_out.Given as goal
 
 abbrev pub invariant-loop-k : goal.invariant-loop-k
 invariant-loop-k l = CrossedOut l.entries l.initial.marks l.k l.marks
-
-abbrev pub decreases-loop-k : goal.decreases-loop-k
-decreases-loop-k l = length l.entries - l.k

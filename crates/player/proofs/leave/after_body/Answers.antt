@@ -1,39 +1,56 @@
 -- `after_body` leaves a child of an IF or a WHL as the law of its kind says.
-use mathlib.Core.Path.{sym, ◌∙◌}
-use native.Mathlib.Numerals.{add-one}
-use native.Mathlib.Omega.{arith}
-use borrow.Author.Tests.{not-true, not-false}
-use Rattle.semantics.proofs.Lists.KindNumbers.{kind_on_condition}
+use Rattle.std.proofs.Common.{◌≡◌, ℕ, List, false, refl, sym, ap, ◌∙◌, inl, inr, arith, add-one, rules}
+use Rattle.semantics.specs.Program.{kind_at, is_leaf}
+use Rattle.semantics.specs.Program.Kind.{IF, WHL}
 use Rattle.semantics.proofs.Tree.SiblingLaws.{first_sibling}
+use Rattle.program.specs.declared.kinds.Kind.{Kind}
+use Rattle.program.specs.declared.kinds.Kind.TheVariants.{Seq, Par, If, Whl, Leaf}
+use Rattle.program.specs.Kinds.{rule_kind}
+use Rattle.player.specs.Walks.{Branches}
 use Rattle.player.proofs.KindTurnLaws.{if_child, whl_false, whl_true}
-use Rattle.std.proofs.lemmas.Bool.{not_from_true, not_from_false}
 use Rattle.player.proofs.leave.after_body.Goals as goal
 
-pub returns-then-kind_of-eq-IF : goal.returns-then-kind_of-eq-IF
-returns-then-kind_of-eq-IF c = λ values i x l p.
-    if_child x i c.args.h l p (sym c.kind_of.ensures ∙ c.if-kind_of-eq-IF.true)
+-- no other kind stands for an IF
+only_if : (k : Kind) → (k ≡ If → ⊥) → rule_kind k ≡ IF → ⊥
+only_if Seq n e = cc
+only_if Par n e = cc
+only_if If n e = n refl
+only_if Whl n e = cc
+only_if (Leaf l) n e = cc
+
+module _ (nodes : List ℕ) (h : ℕ) (b : Branches nodes h) where
+  -- so node h is a WHL where it is not an IF
+  else_whl : (k : Kind) → rule_kind k ≡ kind_at nodes h → (k ≡ If → ⊥) → kind_at nodes h ≡ WHL
+  else_whl k e n = elim b [ inl f ↦ absurd (only_if k n (e ∙ f)) | inr f ↦ f ]
+
+  -- and it is no leaf
+  leafless : is_leaf (kind_at nodes h) ≡ false
+  leafless = elim b [ inl e ↦ ap is_leaf e | inr e ↦ ap is_leaf e ]
+
+pub returns-then-eq : goal.returns-then-eq
+returns-then-eq c =
+    let e : c.kind.result ≡ If = search rules in
+    λ i l p. if_child c.requires.walking i c.args.h l p (sym c.kind.ensures ∙ ap rule_kind e)
 
 pub returns-then-not-holds : goal.returns-then-not-holds
-returns-then-not-holds c = λ values i x l p.
-    let (asked, y) = c.holds.ensures.by_index_2 values _ _ x in
-    whl_false x i c.args.h l p (omega arith) asked y c.holds.ensures.kept_from
-    (not-true c.holds.result (not_from_false _ c.if-not-holds.true))
+returns-then-not-holds c =
+    let k = else_whl _ c.args.h c.requires.h_bound.1 c.kind.result c.kind.ensures (search rules) in
+    let (known, same) = c.holds.ensures.known in
+    λ i l p.
+    whl_false c.requires.walking i c.args.h l p k c.holds.ensures.value known same c.if-not-holds.true
 
-pub enter_child-outcome-requires : goal.enter_child-outcome-requires
-enter_child-outcome-requires c =
-    let (values, x) = c.requires.by_index in
-    let (_, y) = c.holds.ensures.by_index_2 values _ _ x in
-    let leafless = kind_on_condition _ c.requires.h_bound.1 c.requires.h_bound.2 in
-    let child = (first_sibling _ x.walkable.nodes_ok c.args.h c.requires.h_bound.0 leafless).is_node in
-    record {
-      by_index = (values, y);
-      i_bound = omega arith;
-    }
+pub enter_child-outcome-requires-clause-i_bound : goal.enter_child-outcome-requires-clause-i_bound
+enter_child-outcome-requires-clause-i_bound c =
+    let ok = c.requires.walking.accepted.nodes_ok in
+    let (h_bound, b) = c.requires.h_bound in
+    let child = (first_sibling _ ok c.args.h h_bound (leafless _ c.args.h b)).is_node in
+    omega arith
 
 pub returns : goal.returns
-returns c = λ values i x l p.
-    let (asked, y) = c.holds.ensures.by_index_2 values _ _ x in
-    let is_true = not-false c.holds.result (not_from_true _ c.if-not-holds.false) in
-    let e = rw add-one at (c.enter_child-outcome.ensures values y) in
-    rw (c.if_finished.ensures, c.pass.ensures.value, c.pass.ensures.work_after)
-    (whl_true x i c.args.h l p (omega arith) asked y c.holds.ensures.kept_from is_true e)
+returns c =
+    let k = else_whl _ c.args.h c.requires.h_bound.1 c.kind.result c.kind.ensures (search rules) in
+    let (known, same) = c.holds.ensures.known in
+    let e = rw add-one at c.enter_child-outcome.ensures in
+    λ i l p.
+    rw (c.finished.ensures, c.pass.ensures.value, c.pass.ensures.work_after)
+    (whl_true c.requires.walking i c.args.h l p k c.holds.ensures.value known same _ c.if-not-holds.false e)

@@ -1,37 +1,30 @@
--- `work_up_to` works what is not worked yet, and notes it.
-use mathlib.Core.Path.{◌≡◌, ◌∙◌}
-use Prim.Native.Nat.{suc, ◌+◌}
-use native.Mathlib.Omega.{arith}
-use Rattle.player.proofs.MomentLaws.{memo-all-noted}
+-- `work_up_to` works from the first expression that is not worked, and notes all of them at once.
+use Rattle.std.proofs.Common.{◌≡◌, ℕ, List, ap, ◌∙◌, arith, rules}
+use Rattle.player.specs.declared.memo.Memo.{Memo}
+use Rattle.player.specs.Memo.{value_of}
+use Rattle.player.proofs.MemoLaws.{known_filled}
+use Rattle.player.proofs.OperandLaws.{within_memo}
 use Rattle.player.proofs.passes.work_up_to.Goals as goal
 
 pub first_unworked-from-requires : goal.first_unworked-from-requires
-first_unworked-from-requires c =
-    let l = c.requires.e_bound in let (values, f, m) = c.requires.by_index in
-    let fit = f.exprs_fit in
-    omega arith
+first_unworked-from-requires c = within_memo c.args.program.now c.args.e c.requires.e_bound
 
-pub work_from-value-requires : goal.work_from-value-requires
-work_from-value-requires c =
-    let l = c.requires.e_bound in let known = c.requires.by_index in
-    let (most, moments) = c.first_unworked-from.ensures in record { e_bound = (l, most); by_index = (known, moments) }
-
-pub note_from-requires : goal.note_from-requires
-note_from-requires c =
-    let l = c.requires.e_bound in let (values, f, m) = c.requires.by_index in
-    let fit = f.exprs_fit in
-    let worked = c.work_from-value.ensures.by_index_2 values f m in
-    (omega arith, c.first_unworked-from.ensures.0, worked.memo.size)
+pub slice_bounds-fill-end : goal.slice_bounds-fill-end
+slice_bounds-fill-end c =
+    let fit = within_memo c.args.program.now c.args.e c.requires.e_bound in
+    let from = c.first_unworked-from.ensures.0 in
+    search (rules, fit, from)
 
 pub returns : goal.returns
 returns c =
-    let from = c.work_from-value in
-    let a = c.args in
-    λ values f m.
-    let w = from.ensures.by_index_2 values f m in
-    let end : suc a.e ≡ a.e + 1 = omega arith in
+    let exprs = c.args.program.now.lists.exprs.now in
+    let fit = within_memo c.args.program.now c.args.e c.requires.e_bound in
+    let w = c.work_from-value.ensures in
+    let memo = c.work_from-value.new.memo in
+    let variables : memo.variables ≡ c.args.memo.now.variables = ap (λ (m : Memo). m.variables) w.kept in
     record {
-      right = w.right a.e end;
-      memo = memo-all-noted a.exprs.now values from.new.work (a.e + 1) from.result w c.note_from.ensures;
-      kept = λ j l. c.note_from.ensures.kept j l ∙ from.ensures.kept_from j (omega arith);
+      right = w.worked.right c.args.e (omega arith) ∙ ap (λ (v : List ℕ). value_of exprs v c.args.e) variables;
+      known = known_filled exprs memo c.args.e _ w.worked c.first_unworked-from.result c.fill.new.self (omega arith) fit
+          (c.fill.ensures.after (λ y h. h));
+      same = record { variables = variables; present = ap (λ (m : Memo). m.present) w.kept };
     }

@@ -1,24 +1,31 @@
 -- `fill_parents` writes the parent of one node a turn.
-use Prim.Native.Nat.{ℕ}
-use mathlib.Core.Path.{◌≡◌, subst}
-use native.Mathlib.Omega.{arith}
-use Rattle.semantics.specs.Program.{node_count}
-use Rattle.player.specs.Work.{ParentsTo}
-use Rattle.player.proofs.StartLaws.{no_parents, one_parent}
+use Rattle.std.proofs.Common.{ap, ◌∙◌, set, arith, rules, length-set}
+use Rattle.semantics.specs.Program.{parent_at}
+use Rattle.player.specs.declared.work.Work.{Work}
+use Rattle.player.proofs.AcceptedLaws.{is_accepted}
+use Rattle.player.proofs.StartLaws.{filled_more}
 use Rattle.player.proofs.start.fill_parents.Goals as goal
 
-pub loop-i-init : goal.loop-i-init
-loop-i-init c =
-    no_parents c.args.nodes.now c.args.work.now c.requires.1
+pub overflow_cast-count : goal.overflow_cast-count
+overflow_cast-count c =
+    let fit = (is_accepted c.args.program.now).sizes.nodes_fit in
+    search (rules, fit, c.node_count-count.ensures)
+
+pub bounds-work-i : goal.bounds-work-i
+bounds-work-i c =
+    let fit = (is_accepted c.args.program.now).sizes.nodes_fit in
+    omega arith
 
 pub loop-i-preserved : goal.loop-i-preserved
 loop-i-preserved c =
-    one_parent c.parent_of.result c.parent_of.ensures c.loop-i.invariant c.requires.0
-    c.loop-i-test.true
-
-pub returns : goal.returns
-returns c =
     let l = c.loop-i in
-    let a = c.args in
-    let end : l.i ≡ node_count a.nodes.now = omega arith in
-    subst (λ (n : ℕ). ParentsTo a.nodes.now a.work.now l.work n) end l.invariant
+    let parents = l.work.parents in
+    let word = c.node.result.parent in
+    let size = l.invariant.size in
+    let fit = (is_accepted c.args.program.now).sizes.nodes_fit in
+    record {
+      size = length-set parents l.i word ∙ size;
+      filled = filled_more (parent_at c.args.program.now.lists.nodes.now) parents l.i word c.node.ensures.parent (omega arith)
+          l.invariant.filled;
+      kept = ap (λ (w : Work). record w { parents = set parents l.i word }) l.invariant.kept;
+    }

@@ -1,35 +1,32 @@
 -- `source` reads the expression of an ASG itself, and of an IN at its sender.
-use native.Mathlib.Omega.{arith}
-use mathlib.Core.Path.{sym, ap, ◌∙◌}
+use mathlib.Core.Path.{◌≡◌, sym, ap, ◌∙◌}
+use mathlib.Core.Bool.{false}
 use mathlib.Core.Option.{some}
-use lib.ListN.{get_or}
-use Prim.Native.Nat.{ℕ, ◌+◌}
+use Prim.Native.Nat.{ℕ}
+use Rattle.std.proofs.Common.{rules}
 use Rattle.semantics.specs.Program.{b_at}
-use Rattle.player.proofs.StoreLaws.{other_kind, store_channel, sender_node, asg_source, in_source}
+use Rattle.semantics.specs.Completion.{is_asg}
+use Rattle.player.specs.Claims.{slot_at}
+use Rattle.player.specs.Channels.{has_kind}
+use Rattle.player.proofs.StoreLaws.{store_channel, sender_node, in_source}
 use Rattle.player.proofs.stores.source.Goals as goal
 
-pub sender-requires : goal.sender-requires
-sender-requires c =
-    let e = c.kind_of.ensures in
+pub sender-sender-requires : goal.sender-sender-requires
+sender-sender-requires c =
+    let k : has_kind c.args.program.now.lists.nodes.now is_asg c.args.i ≡ false = search rules in
     let (x, s) = c.requires in
-    rw c.channel_of.ensures (store_channel x s (other_kind x (λ q. omega arith)))
+    rw c.channel_of.ensures (store_channel x s k)
 
-pub b_of-requires-in_default : goal.b_of-requires-in_default
-b_of-requires-in_default c =
-    let e = c.kind_of.ensures in
+pub node-requires-in_default : goal.node-requires-in_default
+node-requires-in_default c =
+    let k : has_kind c.args.program.now.lists.nodes.now is_asg c.args.i ≡ false = search rules in
     let (x, s) = c.requires in
-    rw (c.sender.ensures, c.channel_of.ensures) (sender_node x s (other_kind x (λ q. omega arith)))
-
-pub returns-in-3 : goal.returns-in-3
-returns-in-3 c =
-    let w = sym c.kind_of.ensures ∙ c.in-3.is in
-    λ x s. asg_source x w ∙ ap some (sym c.b_of.ensures)
+    rw (c.sender-sender.ensures, c.channel_of.ensures) (sender_node x s k)
 
 pub returns-in_default : goal.returns-in_default
 returns-in_default c =
     let a = c.args in
-    let e = c.kind_of.ensures in
-    let at = c.sender.ensures
-    ∙ ap (λ (n : ℕ). get_or a.claims.now (1024 + n) 0) c.channel_of.ensures in
-    λ x s. in_source x s (other_kind x (λ q. omega arith))
-    ∙ ap some (sym (c.b_of-in_default.ensures ∙ ap (b_at a.nodes.now) at))
+    let nodes = a.program.now.lists.nodes.now in
+    let k : has_kind nodes is_asg a.i ≡ false = search rules in
+    let at = c.sender-sender.ensures ∙ ap (λ (n : ℕ). (slot_at a.claims.now.outputs n).node) c.channel_of.ensures in
+    λ x s. in_source x s k ∙ ap some (sym (c.node-in_default.ensures.b ∙ ap (b_at nodes) at))

@@ -1,80 +1,110 @@
--- `work_right_sides` has the first k entries done, which have n stores.
-use mathlib.Core.Path.{sym, ◌∙◌}
-use native.Mathlib.Omega.{arith}
-use borrow.Author.Rules.{rules}
-use Rattle.player.proofs.RightSideLaws.{storing_entry, storing_room}
-use Rattle.player.proofs.RightSideLaws.{right_none, right_next, right_skip, right_more, right_refused, right-all}
+-- `work_right_sides` has the first entries done.
+use Rattle.std.proofs.Common.{◌≡◌, sym, ap, ◌∙◌, refl, length, length-set, arith, rules}
+use Rattle.player.specs.declared.work.Work.{Work}
+use Rattle.player.proofs.CycleLaws.{entry_node}
+use Rattle.player.proofs.RightSideLaws.{right_none, right-all, right_entry, right_room, right_skip}
+use Rattle.player.proofs.RightSideLaws.{right_target, claimed_entry, right_refused, right_expression, right_more}
 use Rattle.player.proofs.stores.work_right_sides.Goals as goal
-use Rattle.player.proofs.stores.work_right_sides.Goals.{then-stores+else-not-work_right_side, else-stores}
+use Rattle.player.proofs.stores.work_right_sides.Goals.{then-does_store+else-not-claim, else-does_store}
 
-pub loop-k-init : goal.loop-k-init
-loop-k-init c =
-    let (unwritten, aged) = c.requires.unwritten in
-    (search rules, λ values x m. right_none x m unwritten aged)
+pub loop-i-init : goal.loop-i-init
+loop-i-init c =
+    let full : length c.args.stores.now.list ≡ 1024 = search rules in
+    record { kept = refl; size = full; sides = λ values x. right_none x c.args.stores.now.list }
 
-pub stores-requires : goal.stores-requires
-stores-requires c =
-    let l = c.loop-k in
-    let (values, x, m) = c.requires.by_index in
-    storing_entry (right_next x (l.invariant.1 values x m) c.loop-k-test.true)
+pub does_store-requires : goal.does_store-requires
+does_store-requires c =
+    let (values, x) = c.requires in
+    right_entry x (c.loop-i.invariant.sides values x) c.loop-i-test.true
 
-pub work_right_side-requires : goal.work_right_side-requires
-work_right_side-requires c =
-    let l = c.loop-k in
-    let (values, x, m) = c.requires.by_index in
-    let h = l.invariant.1 values x m in
-    let next = right_next x h c.loop-k-test.true in (
-      c.args.entries.now,
-      values,
-      l.k,
-      next,
-      sym (c.stores.ensures (storing_entry next)) ∙ c.if-stores.true,
-      h.memo,
-    )
+pub target-variable-requires : goal.target-variable-requires
+target-variable-requires c =
+    let (values, x) = c.requires in
+    entry_node (right_entry x (c.loop-i.invariant.sides values x) c.loop-i-test.true)
 
-pub returns-then-not-work_right_side : goal.returns-then-not-work_right_side
-returns-then-not-work_right_side c =
-    let l = c.loop-k in
-    let more = c.loop-k-test.true in
-    λ values x m.
-    let h = l.invariant.1 values x m in
-    let next = right_next x h more in
-    let s = sym (c.stores.ensures (storing_entry next)) ∙ c.if-stores.true in
-    right_refused x h more (c.work_right_side.ensures c.args.entries.now values l.k next s h.memo)
-    c.if-not-work_right_side.true
+pub claim-requires : goal.claim-requires
+claim-requires c =
+    let (values, x) = c.requires in
+    let h = c.loop-i.invariant.sides values x in
+    let more = c.loop-i-test.true in
+    let s = sym (c.does_store.ensures (right_entry x h more)) ∙ c.if-does_store.true in
+    right_target x h more s c.target-variable.ensures
 
-pub overflow_add-n : goal.overflow_add-n
-overflow_add-n c =
-    let l = c.loop-k in
-    let (values, x, m) = c.requires.by_index in
-    let room = storing_room (right_next x (l.invariant.1 values x m) c.loop-k-test.true) in
+pub returns-then-not-claim : goal.returns-then-not-claim
+returns-then-not-claim c =
+    let more = c.loop-i-test.true in
+    record {
+      sides = λ values x.
+          let h = c.loop-i.invariant.sides values x in
+          let s = sym (c.does_store.ensures (right_entry x h more)) ∙ c.if-does_store.true in
+          right_refused x h more s c.target-variable.ensures c.claim.ensures _ c.if-not-claim.true;
+      kept = c.loop-i.invariant.kept;
+    }
+
+pub source-requires : goal.source-requires
+source-requires c =
+    let (values, x) = c.requires in
+    let h = c.loop-i.invariant.sides values x in
+    let more = c.loop-i-test.true in
+    let s = sym (c.does_store.ensures (right_entry x h more)) ∙ c.if-does_store.true in
+    (claimed_entry x h more s c.target-variable.ensures c.claim.ensures, s)
+
+pub right_side-value-requires : goal.right_side-value-requires
+right_side-value-requires c =
+    let (values, x) = c.requires in
+    let h = c.loop-i.invariant.sides values x in
+    let more = c.loop-i-test.true in
+    let s = sym (c.does_store.ensures (right_entry x h more)) ∙ c.if-does_store.true in
+    let at = c.target-variable.ensures in
+    let q = c.source.ensures (claimed_entry x h more s at c.claim.ensures) s in
+    record { e_bound = right_expression x h more s at c.claim.ensures q; known = h.known }
+
+pub bounds-stores-count : goal.bounds-stores-count
+bounds-stores-count c =
+    let (values, x) = c.requires in
+    right_room x (c.loop-i.invariant.sides values x) c.loop-i-test.true
+
+pub offset_bounds-stores-count : goal.offset_bounds-stores-count
+offset_bounds-stores-count c =
+    let (values, x) = c.requires in
+    let room = right_room x (c.loop-i.invariant.sides values x) c.loop-i-test.true in
     omega arith
 
-pub loop-k-preserved : goal.loop-k-preserved
-loop-k-preserved c =
-    let l = c.loop-k in
-    let more = c.loop-k-test.true in
-    elim c.if-stores.branch [
-      | then-stores+else-not-work_right_side w ↦ (
-        omega arith,
-        λ values x m.
-            let h = l.invariant.1 values x m in
-            let next = right_next x h more in
-            let s = sym (c.stores.ensures (storing_entry next)) ∙ w.if-stores.true in
-            rw (w.work-is, w.claims-is, w.n-is)
-            (right_more x h more (w.work_right_side.ensures c.args.entries.now values l.k next s h.memo)
-            w.if-not-work_right_side.false),
-      )
-      | else-stores w ↦ (
-        omega arith,
-        λ values x m.
-            let h = l.invariant.1 values x m in
-            let s = sym (c.stores.ensures (storing_entry (right_next x h more))) ∙ w.if-stores.false in
-            rw (w.work-is, w.claims-is, w.n-is) (right_skip x h more s),
-      )
+pub overflow_add-count : goal.overflow_add-count
+overflow_add-count c =
+    let (values, x) = c.requires in
+    let room = right_room x (c.loop-i.invariant.sides values x) c.loop-i-test.true in
+    omega arith
+
+pub loop-i-preserved : goal.loop-i-preserved
+loop-i-preserved c =
+    let l = c.loop-i in
+    let more = c.loop-i-test.true in
+    elim c.if-does_store.branch [
+      | then-does_store+else-not-claim w ↦ rw (w.work-is, w.claims-is, w.stores-is, w.count-is) (record {
+        kept = ap (λ (work : Work). record work { memo = w.right_side-value.new.memo }) l.invariant.kept;
+        size = length-set l.stores.list l.count _ ∙ l.invariant.size;
+        sides = λ values x.
+            let h = l.invariant.sides values x in
+            let s = sym (c.does_store.ensures (right_entry x h more)) ∙ w.if-does_store.true in
+            let at = w.target-variable.ensures in
+            let q = w.source.ensures (claimed_entry x h more s at w.claim.ensures) s in
+            right_more x h more s at w.claim.ensures q w.if-not-claim.false l.invariant.size w.right_side-value.ensures;
+      })
+      | else-does_store w ↦ rw (w.work-is, w.claims-is, w.stores-is, w.count-is) (record {
+        kept = l.invariant.kept;
+        size = l.invariant.size;
+        sides = λ values x.
+            let h = l.invariant.sides values x in
+            right_skip x h more (sym (c.does_store.ensures (right_entry x h more)) ∙ w.if-does_store.false);
+      })
     ]
 
 pub returns : goal.returns
 returns c =
-    let l = c.loop-k in
-    λ values x m. right-all x (l.invariant.1 values x m) c.loop-k-test.false l.invariant.0
+    let l = c.loop-i in
+    record {
+      sides = λ values x.
+          right-all x (l.invariant.sides values x) c.loop-i-test.false l.auto.i-index-end l.invariant.size;
+      kept = l.invariant.kept;
+    }

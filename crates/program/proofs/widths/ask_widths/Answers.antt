@@ -1,27 +1,37 @@
--- `ask_widths` is question 11: the list is as long as it should be, and the search finds no width out of range.
-use Rattle.std.proofs.Common.{sym, refl, ◌∙◌, eq-eqb, ne_eqb}
-use Rattle.semantics.specs.Widths.{widths_ok}
-use Rattle.semantics.proofs.Lists.FaultLaws.{item_11, item_11-length, no_item}
-use Rattle.program.proofs.SearchLaws.{found, not_found, found_lowest}
+-- `ask_widths` is question 11: where there are as many widths as variables, it is answered by a search for a fault.
+use Rattle.std.proofs.Common.{◌≡◌, ◌≢◌, ℕ, Bool, length, sym, refl, rules, arith, tests, eq-eqb, ne_eqb}
+use Rattle.semantics.specs.Numbers.{below, every}
+use Rattle.semantics.specs.Program.{Program}
+use Rattle.semantics.specs.Widths.{width_at, width_ok, widths_ok}
+use Rattle.semantics.proofs.Lists.FaultLaws.{item_11, item_11-length}
+use Rattle.program.specs.Answer.{program_in}
+use Rattle.program.proofs.SearchLaws.{none_faulty, one_faulty}
 use Rattle.program.proofs.widths.ask_widths.Goals as goal
 
-pub returns-then-widths-vars : goal.returns-then-widths-vars
-unfolding widths_ok
-returns-then-widths-vars c exprs nodes chans =
-    let other = c.if-widths-vars.true in
-    (rw (ne_eqb _ _ other), sym (item_11-length _ other))
+abbrev ok : Program → ℕ → Bool
+ok P v = width_ok (width_at P.widths v)
 
--- there is a width for each variable
-pub returns-then-variable-vars : goal.returns-then-variable-vars
+asks : (P : Program) → length P.widths ≡ P.variables → widths_ok P ≡ every (ok P) (below P.variables)
 unfolding widths_ok
-returns-then-variable-vars c exprs nodes chans =
-    let as_many = c.if-widths-vars.false in
-    let f = c.first_faulty_width-variable.ensures in
-    let l = c.if-variable-vars.true in
-    (rw (eq-eqb _ _ as_many, found _ _ _ f l), found_lowest _ _ _ f l ∙ sym (item_11 _ as_many))
+asks P e = rw (eq-eqb _ _ e)
 
-pub returns : goal.returns
+pub returns-then-program : goal.returns-then-program
 unfolding widths_ok
-returns c exprs nodes chans =
-    let f = c.first_faulty_width-variable.ensures in
-    (rw (eq-eqb _ _ c.if-widths-vars.false, not_found _ _ _ f c.if-variable-vars.false), sym (no_item _ 0 refl))
+returns-then-program c =
+    let P = program_in c.args.program.now in
+    let other : length P.widths ≢ P.variables = λ e. omega arith in
+    record { right_number = rw (ne_eqb _ _ other); right_item = sym (item_11-length P other) }
+
+pub returns-in-Some : goal.returns-in-Some
+returns-in-Some c =
+    let P = program_in c.args.program.now in
+    let as_many : length P.widths ≡ P.variables = omega arith in
+    one_faulty (ok P) _ _ refl _ _ _ c.find.ensures.ran (λ x b q k. search (rules, tests)) P 11 (asks P as_many)
+    (item_11 P as_many) _ refl c.in-Some.is
+
+pub returns-in-None : goal.returns-in-None
+returns-in-None c =
+    let P = program_in c.args.program.now in
+    let as_many : length P.widths ≡ P.variables = omega arith in
+    none_faulty (ok P) _ _ refl _ _ _ c.find.ensures.ran (λ x b q k. search (rules, tests)) P 11 (asks P as_many)
+    c.in-None.is

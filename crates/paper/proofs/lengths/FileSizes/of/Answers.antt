@@ -1,0 +1,17 @@
+-- `of` has the counts of an accepted program, which are at most 1,024.
+use Rattle.std.proofs.Common.{arith}
+use Rattle.program.specs.Accepted.{accepted_in}
+use Rattle.semantics.proofs.Lists.QuestionLaws.{accepted}
+use Rattle.paper.proofs.lengths.FileSizes.of.Goals as goal
+
+pub overflow_cast-result : goal.overflow_cast-result
+overflow_cast-result c =
+    let program = c.args.program.now in
+    let count = c.node_count.ensures in
+    omega (arith, (accepted (accepted_in program) program.accepted).sizes.nodes_fit)
+
+pub overflow_cast-result-2 : goal.overflow_cast-result-2
+overflow_cast-result-2 c =
+    let program = c.args.program.now in
+    let count = c.expr_count.ensures in
+    omega (arith, (accepted (accepted_in program) program.accepted).sizes.exprs_fit)

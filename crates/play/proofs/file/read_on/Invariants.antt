@@ -1,9 +1,0 @@
--- `file::read_on` meets its contract: no more is read than the buffer has room for.
-use Rattle.std.proofs.Common.{length, ◌-◌, ◌≤◌}
-use Rattle.play.proofs.file.read_on.Given as goal
-
-abbrev pub invariant-loop-done : goal.invariant-loop-done
-invariant-loop-done g l = l.done ≤ length l.initial.text
-
-abbrev pub decreases-loop-done : goal.decreases-loop-done
-decreases-loop-done g l = length l.initial.text - l.done

@@ -1,0 +1,223 @@
+-- What is known of the values of expressions: in equal values of the variables they are equal, and what a note, a pass or a new
+-- moment leaves known.
+use Rattle.std.proofs.Common.{◌≡◌, ◌≢◌, ℕ, zero, suc, ◌+◌, ◌<◌, ◌≤◌, Bool, true, false, not, cond, eqb, List, [], ◌∷◌, ◌++◌, Some, None, length, get_or, set, refl, sym, ap, ◌∙◌, subst, inl, inr, arith, length-set, get_or-set_same, get_or-set_other, ◌-◌, replicate, rules}
+use Rattle.std.proofs.lemmas.List.{places, length-replicate}
+use borrow.Rule.Slice.PartMut.{put_mid, mid_of}
+use mathlib.Core.Logic.{◌⊎◌}
+use borrow.Author.Tests.{eqb-true, eqb-false}
+use Rattle.semantics.specs.Program.{Program, Op, op_at, p_at, q_at, expr_count}
+use Rattle.semantics.specs.Program.Op.{NUMBER, VARIABLE, BINARY, UNKNOWN}
+use Rattle.semantics.specs.Expressions.{value_of as rule_value, first_values, expr_values, is_true}
+use Rattle.semantics.proofs.Lists.Logic.{true_or_false, lt_or_le}
+use Rattle.player.specs.declared.memo.Memo.{Memo}
+use Rattle.player.specs.Memo.{Known, Unworked, Handed, HasOperands, Holds, Worked, WorkedNow, WorkedTo, worked_at, noted, value_of}
+use Rattle.player.specs.Walks.{holds_now}
+
+-- ---- values of the variables that are read alike
+
+module _ (exprs a b : List ℕ) (alike : (v : ℕ) → get_or a v 0 ≡ get_or b v 0) where
+  same_value : (before : List ℕ) (o : Op) (p q : ℕ) → rule_value a before o p q ≡ rule_value b before o p q
+  unfolding rule_value
+  same_value before NUMBER p q = refl
+  same_value before VARIABLE p q = alike p
+  same_value before (BINARY o) p q = refl
+  same_value before UNKNOWN p q = refl
+
+  same_first : (n : ℕ) → first_values exprs a n ≡ first_values exprs b n
+  unfolding first_values
+  same_first zero = refl
+  same_first (suc n) =
+      ap (λ (before : List ℕ). before ++ rule_value a before (op_at exprs n) (p_at exprs n) (q_at exprs n) ∷ []) (same_first n)
+      ∙ ap (λ (x : ℕ). first_values exprs b n ++ x ∷ [])
+      (same_value (first_values exprs b n) (op_at exprs n) (p_at exprs n) (q_at exprs n))
+
+  pub alike_values : expr_values exprs a ≡ expr_values exprs b
+  alike_values = same_first (expr_count exprs)
+
+-- the values of a state, and those that a memo holds
+pub same_values : (exprs values : List ℕ) (memo : Memo) → Holds values memo
+    → expr_values exprs memo.variables ≡ expr_values exprs values
+same_values exprs values memo holds = alike_values exprs memo.variables values holds
+
+-- conditions by a memo are those of the rules
+pub same_conditions : (P : Program) (values : List ℕ) (memo : Memo) → Holds values memo
+    → holds_now P memo ≡ is_true P values
+same_conditions P values memo holds =
+    ap {B = ℕ → Bool} (λ table e. not (eqb (get_or table e 0) 0)) (same_values P.exprs values memo holds)
+
+-- ---- an expression looked up
+
+pub worked_handed : (exprs : List ℕ) (memo : Memo) (e : ℕ) → Known exprs memo → e < 1024 → HasOperands exprs e
+    → Handed exprs memo.variables e (worked_at memo e)
+worked_handed exprs memo e k l two = pick (eqb (get_or memo.moments e 0) memo.present) refl
+  where
+    pick : (b : Bool) → eqb (get_or memo.moments e 0) memo.present ≡ b
+        → Handed exprs memo.variables e (cond b (Some (get_or memo.formulas e 0)) None)
+    pick true h = k.right e l (eqb-true _ _ h)
+    pick false h = two
+
+-- ---- an expression worked
+
+-- with nothing written
+pub worked_at_once : (exprs : List ℕ) (memo : Memo) (e value : ℕ) → Known exprs memo
+    → value ≡ value_of exprs memo.variables e → Worked exprs memo memo e value
+worked_at_once exprs memo e value k right =
+    record { right = right; known = k; same = record { variables = refl; present = refl } }
+
+-- an element after a list is written at one place: of that place, and of all others
+module _ (list : List ℕ) (e value : ℕ) (l : e < length list) (P : ℕ → ℕ → Type 0) (here : P e value) where
+  pub set_either : (k : ℕ) → (k ≢ e → P k (get_or list k 0)) → P k (get_or (set list e value) k 0)
+  set_either k other = elim (true_or_false (eqb k e)) [
+    | inl t ↦
+        subst (λ (x : ℕ). P x (get_or (set list e value) x 0)) (sym (eqb-true k e t))
+        (subst (λ (y : ℕ). P e y) (sym (get_or-set_same list e value 0 l)) here)
+    | inr t ↦
+        let n : k ≢ e = eqb-false k e t in
+        subst (λ (y : ℕ). P k y) (sym (get_or-set_other list e k value 0 n)) (other n)
+  ]
+
+module _ (exprs : List ℕ) (memo : Memo) (e value : ℕ) (l : e < 1024) (k : Known exprs memo)
+    (right : value ≡ value_of exprs memo.variables e) where
+  pub known_noted : Known exprs (noted memo e value)
+  known_noted =
+      let size = k.size in
+      record {
+        size = record {
+          variables = size.variables;
+          formulas = length-set memo.formulas e value ∙ size.formulas;
+          moments = length-set memo.moments e memo.present ∙ size.moments;
+        };
+        right = λ j u h.
+            set_either memo.formulas e value (let s = size.formulas in omega arith)
+            (λ (x y : ℕ). y ≡ value_of exprs memo.variables x) right j
+            (λ n. k.right j u (sym (get_or-set_other memo.moments e j memo.present 0 n) ∙ h));
+        past = λ j u.
+            set_either memo.moments e memo.present (let s = size.moments in omega arith)
+            (λ (x y : ℕ). y ≤ memo.present) (omega arith) j (λ n. k.past j u);
+      }
+
+-- after its operands
+pub worked_after : (exprs : List ℕ) (before memo₁ memo₂ : Memo) (e value p q x y : ℕ) → e < 1024
+    → Worked exprs before memo₁ p x → Worked exprs memo₁ memo₂ q y → value ≡ value_of exprs before.variables e
+    → Worked exprs before (noted memo₂ e value) e value
+worked_after exprs before memo₁ memo₂ e value p q x y l f g right =
+    let variables = g.same.variables ∙ f.same.variables in
+    record {
+      right = right;
+      known = known_noted exprs memo₂ e value l g.known
+          (right ∙ ap (λ (v : List ℕ). value_of exprs v e) (sym variables));
+      same = record { variables = variables; present = g.same.present ∙ f.same.present };
+    }
+
+-- ---- the expressions from left to right
+
+module _ (exprs : List ℕ) (memo : Memo) (i last : ℕ) where
+  -- those before i are worked at the present moment
+  pub worked_first : i ≤ 1024 → Known exprs memo → ((j : ℕ) → j < i → WorkedNow memo j)
+      → ((e : ℕ) → suc e ≡ i → last ≡ get_or memo.formulas e 0) → WorkedTo exprs memo i last
+  worked_first l k moments read = record {
+    known = k;
+    stand = λ e u. k.right e (omega arith) (moments e u);
+    right = λ e (h : suc e ≡ i). read e h ∙ k.right e (omega arith) (moments e (omega arith));
+  }
+
+  module _ (w : WorkedTo exprs memo i last) where
+    -- the value of expression i is written
+    pub worked_next : (value : ℕ) → i < 1024 → value ≡ value_of exprs memo.variables i
+        → WorkedTo exprs (record memo { formulas = set memo.formulas i value }) (i + 1) value
+    worked_next value l right =
+        let known = w.known in
+        let size = known.size in
+        let stays : (e : ℕ) → (e ≢ i → get_or memo.formulas e 0 ≡ value_of exprs memo.variables e)
+        → get_or (set memo.formulas i value) e 0 ≡ value_of exprs memo.variables e =
+        set_either memo.formulas i value (let s = size.formulas in omega arith)
+        (λ (x y : ℕ). y ≡ value_of exprs memo.variables x) right in
+        record {
+          known = record {
+            size = record {
+              variables = size.variables;
+              formulas = length-set memo.formulas i value ∙ size.formulas;
+              moments = size.moments;
+            };
+            right = λ e u h. stays e (λ n. known.right e u h);
+            past = known.past;
+          };
+          stand = λ e u. stays e (λ n. w.stand e (omega arith));
+          right = λ e (h : suc e ≡ i + 1).
+              let d : i ≡ e = omega arith in
+              subst (λ (x : ℕ). value ≡ value_of exprs memo.variables x) d right;
+        }
+
+    -- the value of one before i, read back or not
+    pub value_before : (prev p x : ℕ) → p < i → (0 < i → suc prev ≡ i)
+        → x ≡ cond (eqb p prev) last (get_or memo.formulas p 0) → x ≡ value_of exprs memo.variables p
+    value_before prev p x l at = pick (eqb p prev) refl
+      where
+        pick : (b : Bool) → eqb p prev ≡ b → x ≡ cond b last (get_or memo.formulas p 0)
+            → x ≡ value_of exprs memo.variables p
+        pick true t h =
+            let d = eqb-true p prev t in
+            let here = at (omega arith) in
+            h ∙ w.right p (omega arith)
+        pick false t h = h ∙ w.stand p l
+
+    -- and noted
+    pub known_all : (moments : List ℕ) → length moments ≡ 1024
+        → ((e : ℕ) → e < 1024 → (get_or moments e 0 ≡ get_or memo.moments e 0) ⊎ ((e < i) × (get_or moments e 0 ≡ memo.present)))
+        → Known exprs (record memo { moments = moments })
+    known_all moments size either =
+        let known = w.known in
+        record {
+          size = record {
+            variables = known.size.variables;
+            formulas = known.size.formulas;
+            moments = size;
+          };
+          right = λ e u h. elim (either e u) [
+            | inl s ↦ known.right e u (sym s ∙ h)
+            | inr s ↦ w.stand e s.0
+          ];
+          past = λ e u. elim (either e u) [
+            | inl s ↦ let p = known.past e u in omega arith
+            | inr s ↦ let p = s.1 in omega arith
+          ];
+        }
+
+-- the moments of those from one up to e are written at once
+pub known_filled : (exprs : List ℕ) (memo : Memo) (e last : ℕ) → WorkedTo exprs memo (e + 1) last → (from : ℕ) (ys : List ℕ)
+    → from ≤ e → e < 1024 → ys ≡ replicate (length (mid_of from (e + 1 - from) memo.moments)) memo.present
+    → Known exprs (record memo { moments = put_mid from (e + 1 - from) memo.moments ys })
+known_filled exprs memo e last w from ys low high eq =
+    let moments = memo.moments in
+    let size = w.known.size.moments in
+    let part : length (mid_of from (e + 1 - from) moments) ≡ e + 1 - from = search (rules, places) in
+    let many : length ys ≡ e + 1 - from =
+    ap (λ (l : List ℕ). length l) eq ∙ length-replicate (length (mid_of from (e + 1 - from) moments)) memo.present
+    ∙ part in
+    known_all exprs memo (e + 1) last w (put_mid from (e + 1 - from) moments ys) (search (rules, places)) (λ k u. elim (lt_or_le k from) [
+      | inl v ↦ inl (search (rules, places))
+      | inr v ↦ elim (lt_or_le k (e + 1)) [
+        | inl t ↦ inr (t, search (rules, places))
+        | inr t ↦ inl (search (rules, places))
+      ]
+    ])
+
+-- ---- moments
+
+-- at a moment at which nothing is worked
+pub known_unworked : (exprs : List ℕ) (before memo : Memo) → Unworked before memo → Known exprs memo
+known_unworked exprs before memo u = record {
+  size = u.size;
+  right = λ e l h. let lower = u.unknown e l in absurd (omega arith);
+  past = λ e l. let lower = u.unknown e l in omega arith;
+}
+
+-- where the variables are written and read as before, what was worked stands
+pub known_rewritten : (exprs : List ℕ) (memo : Memo) (variables : List ℕ) → length variables ≡ 256
+    → ((v : ℕ) → get_or variables v 0 ≡ get_or memo.variables v 0) → Known exprs memo
+    → Known exprs (record memo { variables = variables })
+known_rewritten exprs memo variables size alike k = record {
+  size = record { variables = size; formulas = k.size.formulas; moments = k.size.moments };
+  right = λ e l h. k.right e l h ∙ ap (λ (table : List ℕ). get_or table e 0) (sym (alike_values exprs variables memo.variables alike));
+  past = k.past;
+}

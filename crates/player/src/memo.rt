@@ -1,0 +1,76 @@
+// The values of the variables, and of the expressions that were worked. A moment lasts while no value changes, and what is
+// worked at it stands.
+ghost use Rattle.std.specs.Prelude.{◌≡◌, ℕ, ◌≤◌, ◌<◌, get_or};
+
+use program::VarId;
+use program::limits::{EXPRS_MAX, VARS_MAX};
+
+#[derive(Drop)]
+pub struct Memo {
+    pub variables: [u16; VARS_MAX as usize],
+    // The value of each expression, and the moment at which it was worked.
+    pub formulas: [u16; EXPRS_MAX],
+    pub moments: [u16; EXPRS_MAX],
+    // The present moment.
+    pub present: u16,
+}
+
+impl Memo {
+    ghost use Rattle.player.specs.Memo.{Unworked, Sized, worked_at, noted, new_memo};
+
+    pub fn new() -> Memo
+        ensures { result ≡ new_memo }
+    {
+        Memo {
+            variables: [0; VARS_MAX as usize],
+            formulas: [0; EXPRS_MAX],
+            moments: [0; EXPRS_MAX],
+            present: 0,
+        }
+    }
+
+    // The value of a variable.
+    pub fn variable(&self, v: VarId) -> u16
+        requires { v.0 < 256 }
+        ensures { result ≡ get_or self.now.variables v.0 0 }
+    {
+        self.variables[v.0 as usize]
+    }
+
+    // The value of expression e, if it was worked at the present moment.
+    pub fn worked(&self, e: u16) -> Option<u16>
+        requires { e < 1024 }
+        ensures { result ≡ worked_at self.now e }
+    {
+        let at = e as usize;
+        if self.moments[at] == self.present {
+            Some(self.formulas[at])
+        } else {
+            None
+        }
+    }
+
+    // Expression e has this value at the present moment.
+    pub fn note(&mut self, e: u16, value: u16)
+        requires { e < 1024 }
+        ensures { self.new ≡ noted self.old e value }
+    {
+        let at = e as usize;
+        self.formulas[at] = value;
+        self.moments[at] = self.present;
+    }
+
+    // A moment at which nothing is worked yet follows the present one.
+    pub fn next_moment(&mut self)
+        requires size { Sized self.old }
+        requires past { (e : ℕ) → e < 1024 → get_or self.old.moments e 0 ≤ self.old.present }
+        ensures { Unworked self.old self.new }
+    {
+        if self.present < u16::MAX {
+            self.present += 1;
+        } else {
+            self.moments.fill(0);
+            self.present = 1;
+        }
+    }
+}

@@ -1,0 +1,19 @@
+-- `ask_ranges` is question 4: it is answered by a search for a fault.
+use Rattle.std.proofs.Common.{refl, rules, tests}
+use Rattle.semantics.specs.Check.{references_ok}
+use Rattle.semantics.proofs.Lists.FaultLaws.{item_4}
+use Rattle.program.specs.Answer.{program_in}
+use Rattle.program.proofs.SearchLaws.{none_faulty, one_faulty}
+use Rattle.program.proofs.ranges.ask_ranges.Goals as goal
+
+pub returns-in-Some : goal.returns-in-Some
+returns-in-Some c =
+    let P = program_in c.args.program.now in
+    one_faulty (references_ok P) _ _ c.node_count-count.ensures _ _ _ c.find.ensures.ran (λ x b q k. search (rules, tests)) P 4 refl
+    (item_4 P) _ refl c.in-Some.is
+
+pub returns-in-None : goal.returns-in-None
+returns-in-None c =
+    let P = program_in c.args.program.now in
+    none_faulty (references_ok P) _ _ c.node_count-count.ensures _ _ _ c.find.ensures.ran (λ x b q k. search (rules, tests)) P 4 refl
+    c.in-None.is
