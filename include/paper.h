@@ -51,8 +51,8 @@
  * are large, deep or random (tests/tests/stack.rs). It is measured and not proved; 1 KB is 1,024 bytes:
  *
  *   paper_sizes   less than 1 KB
- *   paper_read    about 22.8 KB
- *   paper_write   about 6.4 KB
+ *   paper_read    about 23.0 KB
+ *   paper_write   about 6.5 KB
  *
  * The archive, target/staticlib/libpaper.a, is for x86-64. It needs no other archive, and goes together with
  * libplayer.a in one program. examples/files.c writes a paper, reads it and plays what it has read.

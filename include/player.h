@@ -39,9 +39,9 @@
  * Memory. A call allocates nothing. This is the most of the caller's stack that it was seen to use, over programs that
  * are large, deep or random (tests/tests/stack.rs). It is measured and not proved; 1 KB is 1,024 bytes:
  *
- *   player_check   about 6.2 KB
- *   player_begin   about 16.3 KB
- *   player_run     about 22.5 KB
+ *   player_check   about 6.3 KB
+ *   player_begin   about 16.6 KB
+ *   player_run     about 22.7 KB
  *
  * The archive, target/staticlib/libplayer.a, is for x86-64. examples/embed.c begins a program and runs it.
  *

@@ -8,8 +8,9 @@ ghost use Rattle.paper.specs.Write.{WriteAnswer};
 
 use super::FileSizes;
 use program::Program;
-use program::word::word_of;
+use program::word::word_of_answer;
 
+// It packs other parts than `word_of`; made of it it would be no shorter.
 fn word_of_sizes(sizes: FileSizes) -> u64
     ensures nodes { nodes_in result ≡ sizes.nodes }
     ensures exprs { exprs_in result ≡ sizes.exprs }
@@ -40,7 +41,7 @@ pub fn paper_read(
         (number_in result) (item_in result)
         (parts_from exprs.new nodes.new values.new widths.new) }
 {
-    word_of(super::read(file, exprs, nodes, values, widths))
+    word_of_answer(super::read(file, exprs, nodes, values, widths))
 }
 
 pub fn paper_write(
@@ -63,5 +64,5 @@ pub fn paper_write(
         vars,
         chans,
     };
-    word_of(super::write(program, values, file))
+    word_of_answer(super::write(program, values, file))
 }

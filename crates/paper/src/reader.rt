@@ -1,4 +1,5 @@
 // What a file holds: its program is checked in lists of the reader's own, and only then are lent lists filled.
+// These stay parameters by themselves: of a struct that holds a `&mut` each function would have to say that it is the same list.
 ghost use Rattle.std.specs.Prelude.{◌≡◌, true, List, ℕ};
 ghost use Rattle.semantics.specs.File.{parts_in, program_in, file_ok, sizes_in};
 ghost use Rattle.semantics.specs.FileCalls.{all_fit, all_filled};

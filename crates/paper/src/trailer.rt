@@ -41,7 +41,7 @@ fn trailer_word(file: &[u8], k: usize) -> u16
     word_in(file, file.len() / 2 - 8 + k)
 }
 
-// The sizes that a trailer has.
+// The sizes that a trailer has. It is no `From`, since it asks that there is a trailer.
 fn sizes_in(file: &[u8]) -> FileSizes
     requires { 16 ≤ length file.now }
     ensures { sizes_in_code result ≡ sizes_in file.now }

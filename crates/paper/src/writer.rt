@@ -33,7 +33,7 @@ pub fn put_parts(program: Program, values: &[u16], file: &mut [u8])
     put_words(widths, file, after_nodes + 2 * values.len());
 }
 
-// The words of a trailer.
+// The words of a trailer. It is no `From`, since it asks that the distances are words.
 pub fn trailer_of(sizes: FileSizes) -> [u16; 8]
     requires { exprs_back (sizes_in_code sizes) < 65536 }
     ensures { result ≡ trailer (sizes_in_code sizes) }

@@ -133,7 +133,7 @@ impl<'a> Expression<'a> {
             Ok(Op::Number) => write!(f, "{p}"),
             Ok(Op::Variable) => write!(f, "v{p}"),
             Ok(Op::Binary(_)) => write!(f, "e{e}"),
-            Err(UnknownOp(op)) => write!(f, "op {op}"),
+            Err(UnknownOp) => write!(f, "op {op}"),
         }
     }
 

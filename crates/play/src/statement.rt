@@ -27,7 +27,7 @@ impl Statement {
 // What stands before the expression.
 impl fmt::Display for Statement {
     fn fmt<W: fmt::Write>(&self, f: &mut fmt::Formatter<W>) -> fmt::Result {
-        let Node { a, b, .. } = self.0;
+        let Node { kind, a, b, .. } = self.0;
         match self.kind() {
             Ok(Kind::Seq) => write!(f, "SEQ"),
             Ok(Kind::Par) => write!(f, "PAR"),
@@ -37,7 +37,7 @@ impl fmt::Display for Statement {
             Ok(Kind::If) => write!(f, "IF "),
             Ok(Kind::Whl) => write!(f, "WHL "),
             Ok(Kind::Leaf(Leaf::Dly)) => write!(f, "DLY"),
-            Err(UnknownKind(kind)) => write!(f, "kind {kind}"),
+            Err(UnknownKind) => write!(f, "kind {kind}"),
         }
     }
 }

@@ -76,11 +76,6 @@ test_fails f UNKNOWN h = refl
 
 -- a kind that is not that of a leaf fails its test
 module _ (k : Kind) where
-  pub no_asg : (k ≡ LEAF ASG → ⊥) → leaf_test is_asg k ≡ false
-  no_asg n = test_fails is_asg k
-      (λ l. elim l as (λ l. k ≡ LEAF l → is_asg l ≡ false)
-      [ ASG ↦ λ e. absurd (n e) | IN ↦ λ e. refl | OUT ↦ λ e. refl | DLY ↦ λ e. refl ])
-
   pub no_in : (k ≡ LEAF IN → ⊥) → leaf_test is_in k ≡ false
   no_in n = test_fails is_in k
       (λ l. elim l as (λ l. k ≡ LEAF l → is_in l ≡ false)

@@ -5,7 +5,7 @@ use Rattle.semantics.specs.Widths.{truncated}
 use Rattle.player.specs.declared.stores.Store.{Store}
 use Rattle.player.specs.declared.work.Work.{Work}
 use Rattle.player.specs.Work.{Masks, masked_by}
-use Rattle.player.specs.Stores.{store_at, variable_at, value_at, put_first, taken_back}
+use Rattle.player.specs.Stores.{listed_store, variable_at, value_at, put_first, taken_back}
 use Rattle.player.proofs.MaskLaws.{masked}
 
 -- a store of nothing, which is read past the end of a list
@@ -16,7 +16,7 @@ no_store = record { variable = record { 0 = 0 }; value = 0 }
 
 module _ (before list : List Store) where
   abbrev pub HoldSame : ℕ → Type 0
-  HoldSame n = (j : ℕ) → j < n → store_at list j ≡ store_at before j
+  HoldSame n = (j : ℕ) → j < n → listed_store list j ≡ listed_store before j
 
   pub put_same : (keep : ℕ → ℕ → ℕ) (n : ℕ) (values : List ℕ) → HoldSame n
       → put_first keep list n values ≡ put_first keep before n values
@@ -46,13 +46,13 @@ put_masked widths work list (suc n) values masks fit =
 -- ---- one store is written
 
 module _ (list : List Store) (n : ℕ) (store : Store) where
-  pub written_other : (j : ℕ) → j ≢ n → store_at (set list n store) j ≡ store_at list j
+  pub written_other : (j : ℕ) → j ≢ n → listed_store (set list n store) j ≡ listed_store list j
   written_other j d = get_or-set_other list n j store no_store d
 
   pub written_before : HoldSame list (set list n store) n
   written_before j l = written_other j (λ e. omega arith)
 
-  pub written_here : n < length list → store_at (set list n store) n ≡ store
+  pub written_here : n < length list → listed_store (set list n store) n ≡ store
   written_here l = get_or-set_same list n store no_store l
 
   pub put_written : (keep : ℕ → ℕ → ℕ) (values : List ℕ) → n < length list

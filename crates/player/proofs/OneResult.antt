@@ -8,16 +8,13 @@ use native.Mathlib.Omega.{arith}
 use Rattle.semantics.specs.Program.{Program}
 use Rattle.semantics.specs.State.{State}
 use Rattle.semantics.specs.Calls.{Answer, run_answer}
+use Rattle.semantics.proofs.Lists.OneResult.{OneResult, determined}
 use Rattle.program.specs.Answer.{CheckAnswer}
 use Rattle.program.specs.Word.{number_in, item_in}
 use Rattle.program.proofs.AnswerLaws.{word_of_parts}
 use Rattle.player.specs.Begin.{BeginAnswer}
 use Rattle.player.specs.Run.{RunAnswer}
 use Rattle.player.specs.Word.{item_of_run_in, worked_in}
-
--- two results that keep a promise are equal
-abbrev pub OneResult : {R : Type 0} → (R → Type 0) → Type 0
-OneResult {R} Keeps = (r t : R) → Keeps r → Keeps t → r ≡ t
 
 -- ---- what the calls hand back, and that it keeps their promises
 
@@ -56,10 +53,6 @@ RunGivesWord P cycles s book (word, s') =
     RunAnswer P cycles s book (number_in word) (item_of_run_in word) (worked_in word) s'
 
 -- ---- the theorem
-
--- a promise that says which result it is leaves one
-determined : {R : Type 0} {Keeps : R → Type 0} {a : R} → ((r : R) → Keeps r → r ≡ a) → OneResult Keeps
-determined is r t g h = is r g ∙ sym (is t h)
 
 pub rules_answer : {P : Program} {cycles : ℕ} {s : State} {book : List ℕ} {r : Answer} → RunGives P cycles s book r
     → r ≡ run_answer P cycles s book

@@ -11,7 +11,7 @@ use Rattle.player.specs.declared.stores.Stores.{Stores}
 use Rattle.player.specs.declared.work.Work.{Work}
 use Rattle.player.specs.Memo.{Holds}
 use Rattle.player.specs.Work.{masked_by}
-use Rattle.player.specs.Stores.{put_first, store_at, variable_at, comes_to, taken_back, HeldFit, Stored}
+use Rattle.player.specs.Stores.{put_first, listed_store, variable_at, comes_to, taken_back, HeldFit, Stored}
 use Rattle.player.proofs.HeldLaws.{no_store, HoldSame, put_same, back_same, written_other, written_before, written_here}
 
 -- two lists that are read alike, of which one element is written
@@ -47,7 +47,7 @@ module _ (old : List ℕ) (before : Work) (listed : List Store) where
     pub kept : work ≡ with_variables before work.memo.variables
     pub same : changed ≡ false → values ≡ old
     pub targets : (j : ℕ) → variable_at list j ≡ variable_at listed j
-    pub ahead : (j : ℕ) → n ≤ j → store_at list j ≡ store_at listed j
+    pub ahead : (j : ℕ) → n ≤ j → listed_store list j ≡ listed_store listed j
     pub back : taken_back list n values ≡ old
 
   pub stored_none : length before.memo.variables ≡ 256 → Holds old before.memo
@@ -73,19 +73,19 @@ module _ (old : List ℕ) (before : Work) (listed : List Store) where
     target = variable_at list n
 
     abbrev value : ℕ
-    value = comes_to work (store_at list n)
+    value = comes_to work (listed_store list n)
 
     abbrev was : ℕ
     was = get_or values target 0
 
     abbrev held : Store
-    held = record (store_at list n) { value = was }
+    held = record (listed_store list n) { value = was }
 
     pub stored_more : target < length values → target < 256
         → StoredTo (not (eqb was value) || changed) (set values target value)
         (with_variables work (set work.memo.variables target value)) (set list n held) (n + 1)
     stored_more inside few =
-        let here : store_at list n ≡ store_at listed n = h.ahead n (omega arith) in
+        let here : listed_store list n ≡ listed_store listed n = h.ahead n (omega arith) in
         let room : n < length list = omega (arith, h.as_many) in
         let placed = written_here list n held room in
         record {
@@ -130,7 +130,7 @@ module _ {old : List ℕ} {stores : Stores} (fit : HeldFit old stores) where
   listed-length =
       let few = fit.few in let size = fit.size in omega (arith, length-take stores.count stores.list)
 
-  listed_same : (j : ℕ) → j < stores.count → store_at listed_in j ≡ store_at stores.list j
+  listed_same : (j : ℕ) → j < stores.count → listed_store listed_in j ≡ listed_store stores.list j
   listed_same j l = get_or-take stores.count stores.list j no_store l
 
   module _ {before : Work} {changed : Bool} {values : List ℕ} {work : Work} {list : List Store} {n : ℕ}
@@ -203,13 +203,13 @@ module _ {start : List ℕ} {stores : Stores} {values : List ℕ} (rest : List S
   last-length : length more ≡ suc (length rest)
   last-length = ap length split ∙ omega (arith, length-append rest (store ∷ []))
 
-  last_store : store_at more (length rest) ≡ store
+  last_store : listed_store more (length rest) ≡ store
   last_store =
-      ap (λ (xs : List Store). store_at xs (length rest)) split ∙ get_or-append_seam rest store [] no_store
+      ap (λ (xs : List Store). listed_store xs (length rest)) split ∙ get_or-append_seam rest store [] no_store
 
   first_stores : HoldSame rest more (length rest)
   first_stores j l =
-      ap (λ (xs : List Store). store_at xs j) split ∙ get_or_append_left rest (store ∷ []) no_store j l
+      ap (λ (xs : List Store). listed_store xs j) split ∙ get_or_append_left rest (store ∷ []) no_store j l
 
   pub restore_more : LeftToRestore start stores (set values store.variable.0 store.value) rest
   restore_more =

@@ -33,15 +33,15 @@ pub record Storing (P : Program) (entries values : List ℕ) (memo : Memo) (clai
 
 -- ---- the stores that are listed
 
-abbrev pub store_at : List Store → ℕ → Store
-store_at list n = get_or list n (record { variable = record { 0 = 0 }; value = 0 })
+abbrev pub listed_store : List Store → ℕ → Store
+listed_store list n = get_or list n (record { variable = record { 0 = 0 }; value = 0 })
 
 -- The variable of store n, and the value that stands beside it.
 abbrev pub variable_at : List Store → ℕ → ℕ
-variable_at list n = (store_at list n).variable.0
+variable_at list n = (listed_store list n).variable.0
 
 abbrev pub value_at : List Store → ℕ → ℕ
-value_at list n = (store_at list n).value
+value_at list n = (listed_store list n).value
 
 -- What a store comes to in its variable.
 abbrev pub comes_to : Work → Store → ℕ

@@ -1,4 +1,4 @@
-// Marks, and how many stand: `work` has their number.
+// Marks, and how many stand: `work` has their number. A mark is the byte 1, as C lends it.
 ghost use Rattle.std.specs.Prelude.{◌≡◌, ◌≤◌, ◌<◌, length, set};
 ghost use Rattle.semantics.specs.State.{mark_count};
 ghost use Rattle.player.specs.Work.{Tallied};

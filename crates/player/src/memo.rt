@@ -1,5 +1,5 @@
 // The values of the variables, and of the expressions that were worked. A moment lasts while no value changes, and what is
-// worked at it stands.
+// worked at it stands. That it is right (`Known`) is said of a program and a memo, and neither has the other: so no field says it.
 ghost use Rattle.std.specs.Prelude.{◌≡◌, ℕ, ◌≤◌, ◌<◌, get_or};
 
 use program::VarId;
@@ -8,7 +8,8 @@ use program::limits::{EXPRS_MAX, VARS_MAX};
 #[derive(Drop)]
 pub struct Memo {
     pub variables: [u16; VARS_MAX as usize],
-    // The value of each expression, and the moment at which it was worked.
+    // The value of each expression, and the moment at which it was worked. In two arrays: with pairs a chain took a seventh more
+    // instructions, for a pass writes many moments at once.
     pub formulas: [u16; EXPRS_MAX],
     pub moments: [u16; EXPRS_MAX],
     // The present moment.

@@ -33,7 +33,7 @@ fn first_unworked(memo: &Memo, e: u16) -> u16
 }
 
 // Works the expressions from one up to e, where all before it are worked. Moments are written afterwards, many words at
-// once.
+// once. With nothing before the first, `prev` is 0, which no operand of the first asks for: an Option would be no plainer.
 fn work_from(program: &Accepted, memo: &mut Memo, from: u16, e: u16) -> u16
     requires e_bound { (e < expr_count (accepted_in program.now).exprs) × (from ≤ e) }
     requires known { Known (accepted_in program.now).exprs memo.old }

@@ -23,6 +23,7 @@ pub fn enter_root(
 {
     let mut work = Work::new();
     start::fill_values(values, &mut work);
+    // As long as any program needs, for the player has no heap.
     let mut new_marks = [0u8; NODES_MAX];
     let mut new_counts = [0u16; NODES_MAX];
     let n = marks.len();

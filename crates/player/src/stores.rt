@@ -22,7 +22,7 @@ struct Store {
     value: u16,
 }
 
-// The stores of a cycle, at most one for each entry.
+// The stores of a cycle, at most one for each entry. An array with a count, for the player has no heap.
 #[derive(Drop)]
 pub struct Stores {
     list: [Store; NODES_MAX],

@@ -24,6 +24,7 @@ fn recount(program: &Accepted, marks: &[u8], counts: &mut [u16])
     ensures { (i : ℕ) → i < node_count (accepted_in program.now).nodes
         → get_or counts.new i 0 ≡ count_from (accepted_in program.now).nodes marks.now i }
 {
+    // As long as any program needs, for the player has no heap.
     let mut live = [0u16; NODES_MAX];
     for at in (0..marks.len()).rev() {
         let i = at as u16;

@@ -41,6 +41,7 @@ fn control_formed(program: &Accepted, marks: &[u8], counts: &[u16]) -> bool
     requires { ListsFit (accepted_in program.now) marks.now counts.now }
     ensures { result ≡ control_formed (accepted_in program.now).nodes marks.now counts.now }
 {
+    // As long as any program needs, for the player has no heap.
     let mut live = [0u16; NODES_MAX];
     for at in (0..marks.len()).rev() {
         let i = at as u16;

@@ -1,4 +1,5 @@
-// What a run keeps beside the lent lists.
+// What a run keeps beside the lent lists. These stay parameters by themselves: of a struct that holds a `&mut` each function would
+// have to say that it is still the same list.
 ghost use Rattle.std.specs.Prelude.{◌≡◌, ◌<◌};
 
 use crate::memo::Memo;

@@ -22,7 +22,8 @@ fn expr_ok(program: &Program, i: u16) -> bool
     }
 }
 
-// The first expression that has a fault.
+// The first expression that has a fault. Questions 2, 3, 4 and 11 are asked alike and share `find`: one function for all would
+// take a test and a refusal as closures, and be no plainer.
 pub fn ask_exprs(program: &Program) -> Result<(), Refusal>
     requires { Sized (program_in program.now) }
     ensures { Asked (program_in program.now) 2

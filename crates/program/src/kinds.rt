@@ -19,9 +19,9 @@ pub enum Kind {
     Leaf(Leaf),
 }
 
-// A word that is no kind.
+// A word is no kind.
 #[derive(Clone, Copy, Debug, PartialEq, Eq)]
-pub struct UnknownKind(pub u16);
+pub struct UnknownKind;
 
 impl TryFrom<u16> for Kind {
     type Error = UnknownKind;
@@ -39,7 +39,7 @@ impl TryFrom<u16> for Kind {
             6 => Ok(Kind::If),
             7 => Ok(Kind::Whl),
             8 => Ok(Kind::Leaf(Leaf::Dly)),
-            _ => Err(UnknownKind(word)),
+            _ => Err(UnknownKind),
         }
     }
 }

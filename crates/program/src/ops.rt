@@ -19,9 +19,9 @@ pub enum Op {
     Binary(Binary),
 }
 
-// A word that is no op.
+// A word is no op.
 #[derive(Clone, Copy, Debug, PartialEq, Eq)]
-pub struct UnknownOp(pub u16);
+pub struct UnknownOp;
 
 impl TryFrom<u16> for Op {
     type Error = UnknownOp;
@@ -39,7 +39,7 @@ impl TryFrom<u16> for Op {
             5 => Ok(Op::Binary(Binary::And)),
             6 => Ok(Op::Binary(Binary::Equal)),
             7 => Ok(Op::Binary(Binary::Below)),
-            _ => Err(UnknownOp(word)),
+            _ => Err(UnknownOp),
         }
     }
 }

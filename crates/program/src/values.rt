@@ -23,7 +23,8 @@ impl Binary {
     }
 }
 
-// An op by its word, at the values of its operands; what has no two operands gives 0.
+// An op by its word, at the values of its operands; what has no two operands gives 0. By the word, since with a `Binary` a
+// chain took a tenth more instructions, and other programs up to a fifth more.
 pub fn apply_op(op: u16, x: u16, y: u16) -> u16
     ensures { result ≡ applied (op_of op) x y }
 {

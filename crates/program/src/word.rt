@@ -5,12 +5,19 @@ ghost use Rattle.program.specs.Word.{number_in, item_in};
 
 use super::Refusal;
 
-pub fn word_of(answer: Result<(), Refusal>) -> u32
+pub fn word_of(number: u16, item: u16) -> u32
+    ensures number { number_in result ≡ number }
+    ensures item { item_in result ≡ item }
+{
+    u32::from(number) + 65536 * u32::from(item)
+}
+
+pub fn word_of_answer(answer: Result<(), Refusal>) -> u32
     ensures number { number_in result ≡ number_of answer }
     ensures item { item_in result ≡ item_of answer }
 {
     match answer {
-        Ok(()) => 0,
-        Err(refusal) => u32::from(refusal.number()) + 65536 * u32::from(refusal.item()),
+        Ok(()) => word_of(0, 0),
+        Err(refusal) => word_of(refusal.number(), refusal.item()),
     }
 }
