@@ -1,12 +1,12 @@
--- Laws of an answer: the item that check gives is that of its number, an answer is a refusal exactly where its number is not
--- 0, and the word for C is made of number and item.
-use Rattle.std.proofs.Common.{◌≡◌, ℕ, ◌+◌, ◌*◌, ◌<◌, Result, Ok, Err, sym, ap, ◌∙◌, refl, arith}
+-- Laws of an answer: the item that check gives is that of its number, no refusal has the number 0, and the word for C is made
+-- of number and item.
+use Rattle.std.proofs.Common.{◌≡◌, ℕ, ◌+◌, ◌*◌, ◌<◌, sym, ap, ◌∙◌, arith}
 use Rattle.semantics.specs.Program.{Program}
 use Rattle.semantics.specs.Check.{fault_item}
 use Rattle.program.specs.declared.refusal.Refusal.{Refusal}
 use Rattle.program.specs.declared.refusal.Refusal.TheVariants.{Sizes, Expr, Node, Reference, Lengths, State, Entries, Channels, Stores, Loop, Width, File, Room}
 use Rattle.program.specs.Refusals.{question_number}
-use Rattle.program.specs.Answer.{CheckAnswer, number_of}
+use Rattle.program.specs.Answer.{CheckAnswer}
 use Rattle.program.specs.Word.{number_in, item_in}
 
 pub check_item_lem : {P : Program} {q item : ℕ} → CheckAnswer P q item → fault_item P q ≡ item
@@ -31,7 +31,3 @@ some_number Loop = omega arith
 some_number (Width v) = omega arith
 some_number File = omega arith
 some_number Room = omega arith
-
-pub not_refused : {A : Type 0} (r : Result A Refusal) → number_of r ≡ 0 → (a : A) × (r ≡ Ok a)
-not_refused (Ok a) e = (a, refl)
-not_refused (Err refusal) e = let some = some_number refusal in absurd (omega arith)

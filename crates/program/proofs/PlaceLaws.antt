@@ -1,10 +1,9 @@
 -- The places of nodes grow by one node at a time: a new node has no child yet, and is one more child of its parent.
-use Rattle.std.proofs.Common.{◌≡◌, ℕ, ◌+◌, ◌<◌, ◌≤◌, Bool, true, false, cond, eqb, List, length, get_or, set, Option, None, Some, unwrap_or, sym, refl, ap, ◌∙◌, inl, inr, arith, zero-add, add-zero, add-one, get_or-set_other, get_or-set_same, length-set, eq-eqb, ne_eqb, eqb-true}
-use borrow.Author.Tests.{eqb-false}
+use Rattle.std.proofs.Common.{◌≡◌, ℕ, ◌+◌, ◌<◌, ◌≤◌, Bool, true, false, cond, List, length, get_or, set, Option, None, Some, unwrap_or, sym, refl, ap, ◌∙◌, arith, zero-add, add-zero, add-one, length-set, eq-eqb, ne_eqb}
 use Rattle.std.proofs.Math.Option.{Option as Maybe, none, some}
 use Rattle.semantics.specs.Numbers.{up_from, filter}
 use Rattle.semantics.specs.Parents.{parent, depth, is_node, is_child}
-use Rattle.semantics.proofs.Lists.Logic.{lt_or_le, true_or_false}
+use Rattle.semantics.proofs.Lists.ListLaws.{set_reads}
 use Rattle.semantics.proofs.Lists.NumberLaws.{count, count_suc, count_add, count_none, count_most}
 use Rattle.semantics.proofs.Lists.ParentLaws.{is_parent, depth_parent}
 use Rattle.semantics.proofs.Lists.ParentSearch.{depth_low}
@@ -100,17 +99,12 @@ module _ (nodes : List ℕ) (n : ℕ) where
 
     pub counted_some : Counted (set places h more)
     counted_some i o l =
-        elim (true_or_false (eqb i h)) [
-          | inl q ↦
-              let same : i ≡ h = eqb-true i h q in
-              let fits = p.fits in
-              let size = p.size in
-              rw (same, get_or-set_same places h more o (omega arith))
-              (one_child_more h (ap (is_node h) (sym e) ∙ eq-eqb h h refl) parent_placed)
-          | inr q ↦
-              rw (get_or-set_other places h i more o (eqb-false i h q))
-              (same_children i (ap (is_node i) (sym e) ∙ ne_eqb h i (λ s. eqb-false i h q (sym s))) (p.right i o l))
-        ]
+        let fits = p.fits in
+        let size = p.size in
+        let low = parent_low h e in
+        set_reads places h more o (omega arith) (IsPlace nodes (n + 1))
+        (one_child_more h (ap (is_node h) (sym e) ∙ eq-eqb h h refl) parent_placed) i
+        (λ q. same_children i (ap (is_node i) (sym e) ∙ ne_eqb h i (λ s. q (sym s))) (p.right i o l))
 
   -- ---- one more node
   pub grow : (places : List Place) → length places ≡ 1024 → n < 1024 → Counted places
@@ -121,8 +115,5 @@ module _ (nodes : List ℕ) (n : ℕ) where
       record {
         size = simp length-set size;
         fits = omega arith;
-        right = λ i o l. elim (lt_or_le i n) [
-          | inl v ↦ rw (get_or-set_other places n i _ o (λ q. omega arith)) (before i o v)
-          | inr v ↦ let same : i ≡ n = omega arith in rw (same, get_or-set_same places n _ o (omega arith)) new
-        ];
+        right = λ i o l. set_reads places n _ o (omega arith) (IsPlace nodes (n + 1)) new i (λ q. before i o (omega arith));
       }

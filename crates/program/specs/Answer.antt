@@ -1,5 +1,5 @@
 -- What check promises: the rules' number of the program in the lent lists, and the item of that number.
-use Rattle.std.specs.Prelude.{◌≡◌, ℕ, List, Bool, cond, Result, Ok, Err}
+use Rattle.std.specs.Prelude.{◌≡◌, ℕ, List, Bool, cond, Result, Ok, Err, ⊤}
 use Rattle.semantics.specs.Program.{Program as Rules}
 use Rattle.semantics.specs.Check.{check_number, fault_item}
 use Rattle.program.specs.declared.Program.{Program}
@@ -24,6 +24,10 @@ number_of (Err refusal) = question_number refusal
 abbrev pub item_of : {A : Type 0} → Result A Refusal → ℕ
 item_of (Ok _) = 0
 item_of (Err refusal) = fault_in refusal
+
+-- The answer to a question: the refusal, unless it is answered yes.
+abbrev pub answer_to : Bool → Refusal → Result ⊤ Refusal
+answer_to passes refusal = cond passes (Ok tt) (Err refusal)
 
 pub record CheckAnswer (P : Rules) (number item : ℕ) : Type 0 where
   pub right_number : number ≡ check_number P

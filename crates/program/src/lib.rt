@@ -8,7 +8,7 @@ mod kinds; // the kinds of nodes
 pub mod limits; // the limits of an accepted program
 mod nodes; // question 3 at one node
 mod ops; // the ops of expressions
-mod parents; // parents, depths and numbers of children
+mod parents; // the parent of a node
 mod ranges; // question 4
 mod records; // the records of the lists
 mod refusal; // what a call refuses

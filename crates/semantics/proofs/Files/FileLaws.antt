@@ -146,9 +146,6 @@ file_fits file h =
       size = eqb-true _ _ size;
     }
 
-pub file_least : (file : List ℕ) → file_ok file ≡ true → 16 ≤ length file
-file_least file h = let s = (file_fits file h).size in omega arith
-
 -- bytes without a trailer are no file
 pub no_trailer : (file : List ℕ) → length file < 16 → file_ok file ≡ false
 unfolding file_ok
