@@ -23,10 +23,6 @@ use Rattle.player.specs.Entries.{crossable, set_all, CrossedOut}
 
 -- ---- one word at every entry
 
-pub set_all-length : (word : ℕ) (marks entries : List ℕ) → length (set_all word marks entries) ≡ length marks
-set_all-length word marks [] = refl
-set_all-length word marks (e ∷ es) = set_all-length word (set marks e word) es ∙ length-set marks e word
-
 set_all-last : (word : ℕ) (marks es : List ℕ) (e : ℕ)
     → set_all word marks (es ++ (e ∷ [])) ≡ set (set_all word marks es) e word
 set_all-last word marks [] e = refl

@@ -12,14 +12,14 @@ use native.Mathlib.Numerals.{add-one}
 use native.Mathlib.Omega.{arith}
 use lib.Dec.{eqb, ltb}
 use lib.ListN.{length, get_or, set, replicate, length-set, length-replicate, get_or-replicate}
-use lib.Seq.{get_or-set_same, get_or-set_other}
-use borrow.Author.Tests.{eqb-true, eqb-false, lt-ltb, le-ltb}
+use borrow.Author.Tests.{eq-eqb, ne_eqb, lt-ltb, le-ltb}
 use Rattle.semantics.specs.Numbers.{below, every}
 use Rattle.semantics.specs.Program.{Program, node_count, kind_at, parent_at}
 use Rattle.semantics.specs.Parents.{parent, is_child}
 use Rattle.semantics.specs.State.{marked, holds_mark, live_children, control_formed}
 use Rattle.semantics.specs.Facts.{locally_ok, node_well_formed}
-use Rattle.semantics.proofs.Lists.Logic.{true_or_false, lt_or_le, refuted}
+use Rattle.semantics.proofs.Lists.Logic.{lt_or_le, refuted}
+use Rattle.semantics.proofs.Lists.ListLaws.{set_reads}
 use Rattle.semantics.proofs.Lists.NumberLaws.{every_below, all-below}
 use Rattle.semantics.proofs.Lists.ParentLaws.{is_parent}
 use Rattle.semantics.proofs.Tree.NodeLaws.{parent_word, root_parent}
@@ -32,14 +32,8 @@ use Rattle.player.specs.WellFormed.{ListsFit, added_to_parent, ParentFits, LiveT
 one_more : (live : List ℕ) (p h : ℕ) → p < length live
     → get_or (set live p (get_or live p 0 + 1)) h 0 ≡ cond (eqb p h) (suc (get_or live h 0)) (get_or live h 0)
 one_more live p h l =
-    elim (true_or_false (eqb p h)) [
-      | inl q ↦
-          let e = eqb-true p h q in
-          rw (q, ← e) (get_or-set_same live p (get_or live p 0 + 1) 0 l ∙ add-one _)
-      | inr q ↦
-          let other = eqb-false p h q in
-          rw q (get_or-set_other live p h (get_or live p 0 + 1) 0 (λ e. other (sym e)))
-    ]
+    set_reads live p (get_or live p 0 + 1) 0 l (λ k n. n ≡ cond (eqb p k) (suc (get_or live k 0)) (get_or live k 0))
+    (rw (eq-eqb p p refl) (add-one _)) h (λ d. rw (ne_eqb p h (λ e. d (sym e))))
 
 added-length : (nodes : List ℕ) (i : ℕ) (holds : Bool) (live : List ℕ)
     → length (added_to_parent nodes i holds live) ≡ length live

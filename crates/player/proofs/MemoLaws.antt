@@ -1,14 +1,15 @@
 -- What is known of the values of expressions: in equal values of the variables they are equal, and what a note, a pass or a new
 -- moment leaves known.
-use Rattle.std.proofs.Common.{◌≡◌, ◌≢◌, ℕ, zero, suc, ◌+◌, ◌<◌, ◌≤◌, Bool, true, false, not, cond, eqb, List, [], ◌∷◌, ◌++◌, Some, None, length, get_or, set, refl, sym, ap, ◌∙◌, subst, inl, inr, arith, length-set, get_or-set_same, get_or-set_other, ◌-◌, replicate, rules}
+use Rattle.std.proofs.Common.{◌≡◌, ◌≢◌, ℕ, zero, suc, ◌+◌, ◌<◌, ◌≤◌, Bool, true, false, not, cond, eqb, List, [], ◌∷◌, ◌++◌, Some, None, length, get_or, set, refl, sym, ap, ◌∙◌, subst, inl, inr, arith, length-set, get_or-set_other, ◌-◌, replicate, rules}
 use Rattle.std.proofs.lemmas.List.{places, length-replicate}
 use borrow.Rule.Slice.PartMut.{put_mid, mid_of}
 use mathlib.Core.Logic.{◌⊎◌}
-use borrow.Author.Tests.{eqb-true, eqb-false}
+use borrow.Author.Tests.{eqb-true}
 use Rattle.semantics.specs.Program.{Program, Op, op_at, p_at, q_at, expr_count}
 use Rattle.semantics.specs.Program.Op.{NUMBER, VARIABLE, BINARY, UNKNOWN}
 use Rattle.semantics.specs.Expressions.{value_of as rule_value, first_values, expr_values, is_true}
-use Rattle.semantics.proofs.Lists.Logic.{true_or_false, lt_or_le}
+use Rattle.semantics.proofs.Lists.Logic.{lt_or_le}
+use Rattle.semantics.proofs.Lists.ListLaws.{set_reads}
 use Rattle.player.specs.declared.memo.Memo.{Memo}
 use Rattle.player.specs.Memo.{Known, Unworked, Handed, HasOperands, Holds, Worked, WorkedNow, WorkedTo, worked_at, noted, value_of}
 use Rattle.player.specs.Walks.{holds_now}
@@ -64,18 +65,6 @@ pub worked_at_once : (exprs : List ℕ) (memo : Memo) (e value : ℕ) → Known 
 worked_at_once exprs memo e value k right =
     record { right = right; known = k; same = record { variables = refl; present = refl } }
 
--- an element after a list is written at one place: of that place, and of all others
-module _ (list : List ℕ) (e value : ℕ) (l : e < length list) (P : ℕ → ℕ → Type 0) (here : P e value) where
-  pub set_either : (k : ℕ) → (k ≢ e → P k (get_or list k 0)) → P k (get_or (set list e value) k 0)
-  set_either k other = elim (true_or_false (eqb k e)) [
-    | inl t ↦
-        subst (λ (x : ℕ). P x (get_or (set list e value) x 0)) (sym (eqb-true k e t))
-        (subst (λ (y : ℕ). P e y) (sym (get_or-set_same list e value 0 l)) here)
-    | inr t ↦
-        let n : k ≢ e = eqb-false k e t in
-        subst (λ (y : ℕ). P k y) (sym (get_or-set_other list e k value 0 n)) (other n)
-  ]
-
 module _ (exprs : List ℕ) (memo : Memo) (e value : ℕ) (l : e < 1024) (k : Known exprs memo)
     (right : value ≡ value_of exprs memo.variables e) where
   pub known_noted : Known exprs (noted memo e value)
@@ -88,11 +77,11 @@ module _ (exprs : List ℕ) (memo : Memo) (e value : ℕ) (l : e < 1024) (k : Kn
           moments = length-set memo.moments e memo.present ∙ size.moments;
         };
         right = λ j u h.
-            set_either memo.formulas e value (let s = size.formulas in omega arith)
+            set_reads memo.formulas e value 0 (let s = size.formulas in omega arith)
             (λ (x y : ℕ). y ≡ value_of exprs memo.variables x) right j
             (λ n. k.right j u (sym (get_or-set_other memo.moments e j memo.present 0 n) ∙ h));
         past = λ j u.
-            set_either memo.moments e memo.present (let s = size.moments in omega arith)
+            set_reads memo.moments e memo.present 0 (let s = size.moments in omega arith)
             (λ (x y : ℕ). y ≤ memo.present) (omega arith) j (λ n. k.past j u);
       }
 
@@ -130,7 +119,7 @@ module _ (exprs : List ℕ) (memo : Memo) (i last : ℕ) where
         let size = known.size in
         let stays : (e : ℕ) → (e ≢ i → get_or memo.formulas e 0 ≡ value_of exprs memo.variables e)
         → get_or (set memo.formulas i value) e 0 ≡ value_of exprs memo.variables e =
-        set_either memo.formulas i value (let s = size.formulas in omega arith)
+        set_reads memo.formulas i value 0 (let s = size.formulas in omega arith)
         (λ (x y : ℕ). y ≡ value_of exprs memo.variables x) right in
         record {
           known = record {

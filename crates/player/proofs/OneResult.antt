@@ -1,7 +1,7 @@
 -- An end theorem of this crate: a call is a function of what it is lent. Take any two results that keep a call's
 -- promise for the same program, state, number of cycles and book: they are equal. It is said once of check, begin and
 -- run, and once of what they hand to C, where number, item and cycles worked are in one word.
-use mathlib.Core.Path.{◌≡◌, sym, ◌∙◌}
+use mathlib.Core.Path.{◌≡◌, ◌∙◌}
 use mathlib.Core.List.{List}
 use Prim.Native.Nat.{ℕ, ◌+◌, ◌*◌}
 use native.Mathlib.Omega.{arith}

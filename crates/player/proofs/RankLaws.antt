@@ -1,14 +1,14 @@
 -- The rank of a slot, and what one claim changes: its own slot, and no other.
 use mathlib.Core.Path.{◌≡◌, refl, sym, ap, ◌∙◌, subst}
-use mathlib.Core.Bool.{Bool, true, false, cond, not}
+use mathlib.Core.Bool.{Bool, true, false, cond}
 use mathlib.Core.List.{List}
 use Prim.Native.Nat.{ℕ, suc, ◌≤◌, ◌<◌}
 use native.Mathlib.Nat.{le_refl}
 use native.Mathlib.Omega.{arith}
-use lib.Dec.{eqb, eqb-suc-zero}
+use lib.Dec.{eqb}
 use lib.ListN.{length, get_or, set, length-set}
-use lib.Seq.{get_or-set_same, get_or-set_other}
-use borrow.Author.Tests.{eqb-true, eqb-false, eq-eqb, ne_eqb}
+use borrow.Author.Tests.{eq-eqb, ne_eqb}
+use Rattle.semantics.proofs.Lists.ListLaws.{set_reads}
 use Rattle.player.specs.declared.claims.Slot.{Slot}
 use Rattle.player.specs.declared.claims.Slots.{Slots}
 use Rattle.player.specs.Claims.{slot_at, rank_in, UpTo, Unclaimed, Claim, Claimed}
@@ -17,15 +17,6 @@ use Rattle.player.specs.Claims.{slot_at, rank_in, UpTo, Unclaimed, Claim, Claime
 
 abbrev rank : ℕ → Slot → ℕ
 rank stamp x = cond (eqb x.stamp stamp) (suc x.node) 0
-
--- a slot is free whose stamp is not that of the cycle
-pub rank_free : (s : Slots) (stamp slot : ℕ)
-    → eqb (rank_in s stamp slot) 0 ≡ not (eqb (slot_at s slot).stamp stamp)
-rank_free s stamp slot = pick (eqb (slot_at s slot).stamp stamp)
-  where
-    pick : (b : Bool) → eqb (cond b (suc (slot_at s slot).node) 0) 0 ≡ not b
-    pick true = eqb-suc-zero (slot_at s slot).node
-    pick false = refl
 
 pub rank_none : (s : Slots) (stamp slot : ℕ) → (slot_at s slot).stamp < stamp → rank_in s stamp slot ≡ 0
 rank_none s stamp slot l = rw (ne_eqb (slot_at s slot).stamp stamp (λ e. omega arith))
@@ -55,13 +46,9 @@ at xs j = get_or xs j (stamped 0 0)
 
 set_read : (xs : List Slot) (slot j : ℕ) (x : Slot) → slot < length xs
     → at (set xs slot x) j ≡ cond (eqb slot j) x (at xs j)
-set_read xs slot j x l = pick (eqb slot j) refl
-  where
-    pick : (b : Bool) → eqb slot j ≡ b → at (set xs slot x) j ≡ cond b x (at xs j)
-    pick true e =
-        ap (at (set xs slot x)) (sym (eqb-true slot j e)) ∙ get_or-set_same xs slot x (stamped 0 0) l
-    pick false e =
-        get_or-set_other xs slot j x (stamped 0 0) (λ q. eqb-false slot j e (sym q))
+set_read xs slot j x l =
+    set_reads xs slot x (stamped 0 0) l (λ k y. y ≡ cond (eqb slot k) x (at xs k)) (rw (eq-eqb slot slot refl)) j
+    (λ d. rw (ne_eqb slot j (λ e. d (sym e))))
 
 module _ {before after : Slots} {stamp slot i : ℕ} (size : length before.slots ≡ 256) (s : slot < 256) where
   -- a claim of a free slot writes it, and no other

@@ -1,5 +1,5 @@
 -- What a run starts with in `work`, place after place.
-use Rattle.std.proofs.Common.{◌≡◌, ℕ, ◌+◌, ◌-◌, ◌^◌, ◌<◌, ◌≤◌, List, length, get_or, set, refl, sym, ap, ◌∙◌, subst, inl, inr, arith, rules, get_or-set_same, get_or-set_other}
+use Rattle.std.proofs.Common.{◌≡◌, ℕ, ◌-◌, ◌^◌, ◌<◌, ◌≤◌, List, length, get_or, refl, sym, ap, ◌∙◌, inl, inr, arith, rules}
 use Rattle.std.proofs.lemmas.List.{places, length-replicate}
 use lib.ListN.{get_or-eq_default}
 use borrow.Rule.Slice.PartMut.{put_mid}
@@ -48,18 +48,6 @@ module _ (values ys : List ℕ) (memo : Memo) (new : memo ≡ new_memo) (same : 
         let last : get_or filled.variables v 0 ≡ get_or memo.variables v 0 = search (rules, places, size, many, fit, l) in
         last ∙ ap (λ (m : Memo). get_or m.variables v 0) new ∙ zeros 256 v ∙ sym (get_or-eq_default values 0 l)
   ]
-
--- ---- places filled one after the other
-
--- one more than before
-pub filled_more : (f : ℕ → ℕ) (list : List ℕ) (n word : ℕ) → word ≡ f n → n < length list
-    → ((k : ℕ) → k < n → get_or list k 0 ≡ f k) → (k : ℕ) → k < n + 1 → get_or (set list n word) k 0 ≡ f k
-filled_more f list n word right inside before k l = elim (lt_or_le k n) [
-  | inl m ↦ get_or-set_other list n k word 0 (λ (e : k ≡ n). omega arith) ∙ before k m
-  | inr m ↦
-      let e : n ≡ k = omega arith in
-      subst (λ (x : ℕ). get_or (set list n word) x 0 ≡ f x) e (get_or-set_same list n word 0 inside ∙ right)
-]
 
 -- past the widths there is no bit, and the mask is 0
 pub masks_filled : (widths : List ℕ) (work : Work)

@@ -1,20 +1,20 @@
 -- Counts from marks: the pass that counts anew, from the last node to the first, and that in a well-formed state it
 -- finds the counts of the state.
-use mathlib.Core.Path.{◌≡◌, sym, ◌∙◌, subst}
+use mathlib.Core.Path.{◌≡◌, sym, ◌∙◌}
 use mathlib.Core.Bool.{true, cond, ◌||◌}
 use mathlib.Core.List.{List}
-use mathlib.Core.Logic.{inl, inr}
 use Prim.Native.Nat.{ℕ, suc, ◌≤◌, ◌<◌}
 use native.Mathlib.Nat.{le_refl}
 use native.Mathlib.Omega.{arith}
 use lib.Dec.{ltb}
 use lib.ListN.{length, get_or, set, replicate, length-set}
-use lib.Seq.{get_or-set_same, get_or-set_other, ext_get_or}
+use lib.Seq.{ext_get_or}
 use borrow.Author.Tests.{eqb-true}
 use Rattle.semantics.specs.Program.{Program, node_count, is_par, kind_at}
 use Rattle.semantics.specs.State.{State, marked, marks_are_bits, leaves_marked, pairs_meet_in_par}
 use Rattle.semantics.specs.State.{control_formed, well_formed}
-use Rattle.semantics.proofs.Lists.Logic.{and_left, lt_or_le}
+use Rattle.semantics.proofs.Lists.Logic.{and_left}
+use Rattle.semantics.proofs.Lists.ListLaws.{set_reads}
 use Rattle.semantics.proofs.Tree.WellFormedOnTree.{control_formed-in}
 use Rattle.semantics.proofs.Order.InRange.{control_formed_lem}
 use Rattle.player.specs.WellFormed.{ListsFit, added_to_parent, LiveTable, count_from}
@@ -50,14 +50,10 @@ recount_step {P} {marks} {counts₀} {i} {counts} {live} lists so_far =
       within = omega arith;
       size = length-set counts i count ∙ so_far.size;
       table = table_step lists l so_far.table;
-      right = λ j v f. elim (lt_or_le i j) [
-        | inl w ↦
-            get_or-set_other counts i j count 0 (λ (e : j ≡ i). omega arith) ∙ so_far.right j w f
-        | inr w ↦
-            let e : i ≡ j = omega arith in
-            subst (λ (k : ℕ). get_or (set counts i count) k 0 ≡ count_from P.nodes marks k) e
-            (get_or-set_same counts i count 0 (omega (arith, so_far.size)) ∙ own)
-      ];
+      right = λ j v f.
+          set_reads counts i count 0 (omega (arith, so_far.size))
+          (λ k x. i ≤ k → k < node_count P.nodes → x ≡ count_from P.nodes marks k) (λ w u. own) j
+          (λ d w u. so_far.right j (omega arith) u) v f;
     }
 
 -- ---- a well-formed state

@@ -1,6 +1,6 @@
 -- What holds at each place of a walk still holds when an expression was worked, a count changed, a leaf was marked, or a
 -- zero-time loop was noted; and what no walk writes is kept.
-use Rattle.std.proofs.Common.{◌≡◌, ℕ, Bool, true, false, List, length, set, length-set, refl, ◌∙◌, arith}
+use Rattle.std.proofs.Common.{◌≡◌, ℕ, Bool, true, false, List, length, set, length-set, refl, ◌∙◌}
 use Rattle.semantics.specs.Program.{Program}
 use Rattle.semantics.specs.State.{mark_count}
 use Rattle.player.specs.declared.memo.Memo.{Memo}
@@ -8,7 +8,7 @@ use Rattle.player.specs.declared.work.Work.{Work}
 use Rattle.player.specs.declared.outcome.Outcome.{Outcome}
 use Rattle.player.specs.declared.outcome.Outcome.TheVariants.{Finished, Stays}
 use Rattle.player.specs.Memo.{Known, SameMoment}
-use Rattle.player.specs.Work.{Tallied, KeptTables}
+use Rattle.player.specs.Work.{KeptTables}
 use Rattle.player.specs.Walks.{Walking, passed_by}
 
 -- ---- what no walk writes
@@ -38,9 +38,6 @@ kept_passed false Stays = kept_refl
 -- ---- what holds at each place
 
 module _ {P : Program} {marks counts : List ℕ} {work : Work} (w : Walking P marks counts work) where
-  pub walking_tallied : Tallied marks work
-  walking_tallied = record { marks_fit = omega (arith, w.accepted.sizes.nodes_fit); tally = w.tally }
-
   pub walking_worked : {memo : Memo} → Known P.exprs memo → Walking P marks counts (record work { memo = memo })
   walking_worked known =
       record {

@@ -1,11 +1,12 @@
 -- `fill_masks` writes the mask of one variable a turn.
 use Rattle.std.proofs.Common.{◌≡◌, ℕ, ◌-◌, ◌^◌, List, length, get_or, set, refl, ap, ◌∙◌, arith, length-set, get_or-set_other}
 use Rattle.std.proofs.lemmas.List.{length-replicate}
+use Rattle.std.proofs.lemmas.List.Edits.{fill_by_more}
 use Rattle.semantics.specs.Widths.{width_at}
 use Rattle.semantics.proofs.Lists.NumberLaws.{zeros}
 use Rattle.player.specs.declared.work.Work.{Work}
 use Rattle.player.proofs.AcceptedLaws.{is_accepted}
-use Rattle.player.proofs.StartLaws.{filled_more, masks_filled}
+use Rattle.player.proofs.StartLaws.{masks_filled}
 use Rattle.player.proofs.start.fill_masks.Goals as goal
 
 pub loop-v-init : goal.loop-v-init
@@ -30,8 +31,8 @@ loop-v-preserved c =
     let fit = (is_accepted c.args.program.now).sizes.variables_fit in
     record {
       size = length-set masks l.v mask ∙ size;
-      filled = filled_more (λ v. 2 ^ width_at c.args.program.now.lists.widths.now v - 1) masks l.v mask c.greatest.ensures
-          (omega arith) l.invariant.filled;
+      filled = rw c.greatest.ensures
+          (fill_by_more (λ v. 2 ^ width_at c.args.program.now.lists.widths.now v - 1) masks l.v 0 (omega arith) l.invariant.filled);
       zeros = λ k u. get_or-set_other masks l.v k mask 0 (λ (e : k ≡ l.v). omega arith) ∙ l.invariant.zeros k (omega arith);
       kept = ap (λ (w : Work). record w { masks = set masks l.v mask }) l.invariant.kept;
     }
