@@ -1,6 +1,7 @@
 -- What an accepted program gives to the code that walks it: the facts of questions 1 to 4 and 11, conditions that are there,
 -- and widths of 1 to 16 bits.
-use Rattle.std.proofs.Common.{◌≡◌, ℕ, ◌<◌, true, true≢false, sym, ap, ◌∙◌, inl, inr, subst}
+use Rattle.std.proofs.Common.{◌≡◌, ℕ, ◌<◌, true, true≢false, Ok, Err, refl, sym, ap, ◌∙◌, inl, inr, subst}
+use Rattle.std.specs.Prelude.{Result, IsOk}
 use borrow.Author.Tests.{ltb-true}
 use Rattle.semantics.specs.Program.{Program, Kind, expr_count, op_at, node_count, kind_at, a_at, b_at}
 use Rattle.semantics.specs.Program.Kind.{IF, WHL, UNKNOWN as UNKNOWN-KIND}
@@ -38,3 +39,9 @@ module _ (P : Program) (ok : check_number P ≡ 0) where
   unfolding expr_words_ok
   op_known i l e =
       true≢false (sym ((accepted P ok).exprs_ok i l) ∙ rw e)
+
+-- a word that is read as something known is read as a value
+pub read_ok : {A E R : Type 0} (read : Result A E → R) (unknown : R) → ((e : E) → read (Err e) ≡ unknown)
+    → (r : Result A E) → (read r ≡ unknown → ⊥) → IsOk r
+read_ok read unknown err (Ok _) known = refl
+read_ok read unknown err (Err e) known = absurd (known (err e))

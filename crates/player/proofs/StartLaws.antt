@@ -17,7 +17,7 @@ use Rattle.player.proofs.MemoLaws.{known_unworked}
 -- written over the first of zeros, at the first moment, at which nothing is worked
 module _ (values ys : List ℕ) (memo : Memo) (new : memo ≡ new_memo) (same : ys ≡ values) (fit : length values ≤ 256) where
   abbrev filled : Memo
-  filled = record memo { variables = put_mid 0 (length values) memo.variables ys; present = 1 }
+  filled = record memo { variables = put_mid 0 (length values) memo.variables ys }
 
   size : length memo.variables ≡ 256
   size = ap (λ (m : Memo). length m.variables) new ∙ length-replicate {A = ℕ} 256 0
@@ -29,6 +29,7 @@ module _ (values ys : List ℕ) (memo : Memo) (new : memo ≡ new_memo) (same : 
   known_filled exprs =
       let no_moment : (e : ℕ) → get_or memo.moments e 0 ≡ 0 =
       λ e. ap (λ (m : Memo). get_or m.moments e 0) new ∙ zeros 1024 e in
+      let first : memo.present ≡ 1 = ap (λ (m : Memo). m.present) new in
       known_unworked exprs filled filled (record {
         size = record {
           variables = search (rules, places, size, many, fit);
@@ -36,7 +37,7 @@ module _ (values ys : List ℕ) (memo : Memo) (new : memo ≡ new_memo) (same : 
           moments = ap (λ (m : Memo). length m.moments) new ∙ length-replicate {A = ℕ} 1024 0;
         };
         variables = refl;
-        unknown = λ e l. rw (no_moment e) (omega arith);
+        unknown = λ e l. rw (no_moment e, first) (omega arith);
       })
 
   pub holds_filled : Holds values filled

@@ -7,10 +7,10 @@ use Rattle.semantics.specs.Program.{Binary}
 use Rattle.semantics.specs.Expressions.{expr_values}
 use Rattle.player.specs.declared.memo.Memo.{Memo}
 
--- A memo of nothing.
+-- A memo of nothing, at the first moment.
 abbrev pub new_memo : Memo
 new_memo =
-    record { variables = replicate 256 0; formulas = replicate 1024 0; moments = replicate 1024 0; present = 0 }
+    record { variables = replicate 256 0; formulas = replicate 1024 0; moments = replicate 1024 0; present = 1 }
 
 -- The value of expression e in these values of the variables.
 abbrev pub value_of : List ℕ → List ℕ → ℕ → ℕ

@@ -12,13 +12,14 @@ pub struct Memo {
     // instructions, for a pass writes many moments at once.
     pub formulas: [u16; EXPRS_MAX],
     pub moments: [u16; EXPRS_MAX],
-    // The present moment.
+    // The present moment, from 1 on: moment 0 is for what was never worked.
     pub present: u16,
 }
 
 impl Memo {
     ghost use Rattle.player.specs.Memo.{Unworked, Sized, worked_at, noted, new_memo};
 
+    // At the first moment nothing is worked.
     pub fn new() -> Memo
         ensures { result ≡ new_memo }
     {
@@ -26,7 +27,7 @@ impl Memo {
             variables: [0; VARS_MAX as usize],
             formulas: [0; EXPRS_MAX],
             moments: [0; EXPRS_MAX],
-            present: 0,
+            present: 1,
         }
     }
 

@@ -30,10 +30,7 @@ pub fn op(program: &Accepted, e: u16) -> Op
     requires { e < expr_count (accepted_in program.now).exprs }
     ensures { rule_op result ≡ op_at (accepted_in program.now).exprs e }
 {
-    match Op::try_from(expr(program, e).op) {
-        Ok(op) => op,
-        Err(_) => unreachable!(),
-    }
+    Op::try_from(expr(program, e).op).unwrap()
 }
 
 // Node i.
@@ -61,8 +58,5 @@ pub fn kind(program: &Accepted, i: u16) -> Kind
     requires { i < node_count (accepted_in program.now).nodes }
     ensures { rule_kind result ≡ kind_at (accepted_in program.now).nodes i }
 {
-    match Kind::try_from(node(program, i).kind) {
-        Ok(kind) => kind,
-        Err(_) => unreachable!(),
-    }
+    Kind::try_from(node(program, i).kind).unwrap()
 }

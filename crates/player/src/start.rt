@@ -10,7 +10,7 @@ use crate::work::Work;
 use crate::{marks, records, widths};
 use program::{Accepted, VarId};
 
-// The values of the variables, at a first moment at which nothing is worked.
+// The values of the variables, at the first moment, at which nothing is worked.
 pub fn fill_values(values: &[u16], work: &mut Work)
     requires values_len { length values.now ≤ 256 }
     requires new { work.old ≡ new_work }
@@ -19,7 +19,6 @@ pub fn fill_values(values: &[u16], work: &mut Work)
     ensures kept { work.new ≡ record work.old { memo = work.new.memo } }
 {
     work.memo.variables[..values.len()].copy_from_slice(values);
-    work.memo.present = 1;
 }
 
 // The parents of the nodes, over zeros.

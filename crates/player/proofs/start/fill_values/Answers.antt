@@ -1,4 +1,4 @@
--- `fill_values` writes the values over zeros, and then the first moment.
+-- `fill_values` writes the values over zeros, at the first moment.
 use Rattle.std.proofs.Common.{ap}
 use Rattle.player.specs.declared.work.Work.{Work}
 use Rattle.player.proofs.StartLaws.{known_filled, holds_filled}
