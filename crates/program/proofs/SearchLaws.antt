@@ -1,6 +1,6 @@
 -- Laws of a search for a fault: `find`, over the indices below a count, finds the rules' lowest fault, or none where every
 -- index passes. So it answers the question that is asked of each index.
-use Rattle.std.proofs.Common.{◌≡◌, ℕ, ◌<◌, ◌≤◌, Bool, true, false, not, List, Option, None, Some, Ok, Err, sym, refl, ap, ◌∙◌, subst, inl, inr, zero-le, true≢false}
+use Rattle.std.proofs.Common.{◌≡◌, ℕ, ◌<◌, ◌≤◌, Bool, true, false, not, List, Option, None, Some, Ok, Err, sym, refl, ◌∙◌, subst, inl, inr, zero-le, true≢false}
 use borrow.Author.Tests.{not-true, not-false}
 use denote.Ref.{Bor}
 use denote.Param.Members.{Mut}
@@ -46,8 +46,8 @@ module _ (ok : ℕ → Bool) (n : ℕ) where
   ]
 
   -- ---- a search up to `end` that calls a test of faults
-  module _ {F : Type 0} {g : Mut F (Bor ℕ × Unit {0}) Bool} (end : ℕ) (whole : end ≡ n) (u : Range ℕ) (f : F)
-      (r : Option ℕ) (ran : (xs : List ℕ) × (j : F) × YieldsThen nat_range_steps (record { start = 0; end = end }) xs r u
+  module _ {F : Type 0} {g : Mut F (Bor ℕ × Unit {0}) Bool} {end : ℕ} (whole : end ≡ n) {f : F} (u : Range ℕ) (r : Option ℕ)
+      (ran : (xs : List ℕ) × (j : F) × YieldsThen nat_range_steps (record { start = 0; end = end }) xs r u
       × FoldsTo (λ p x q. CalledAt g p x false q) f xs j × MatchOption r ⊤ (λ x. (h : F) × CalledAt g j x true h))
       (tests : (x : ℕ) (b : Bool) (q : F) → CalledAt g f x b q → (q ≡ f) × (b ≡ not (ok x))) where
     searched : Found r
@@ -58,17 +58,16 @@ module _ (ok : ℕ → Bool) (n : ℕ) where
         (λ x q k. not-true _ (sym (tests x true q k).1))
         (λ x q k. ((tests x false q k).0, not-false _ (sym (tests x false q k).1)))))
 
-    -- the question is answered yes where every index passes
-    module _ (P : Program) (question : ℕ) {yes : Bool} (asks : yes ≡ every ok (below n)) where
-      pub none_faulty : r ≡ None → Asked {A = Unit {0}} P question yes (Ok tt)
-      none_faulty e =
-          record { right_number = rw (asks ∙ subst Found e searched); right_item = sym (no_item P 0 refl) }
+    -- a question that is asked of each index is answered yes where every one passes
+    module _ {P : Program} {yes : Bool} (asks : yes ≡ every ok (below n)) where
+      pub none_faulty : {question : ℕ} → r ≡ None → Asked {A = Unit {0}} P question yes (Ok tt)
+      none_faulty e = record { right_number = rw (asks ∙ subst Found e searched); right_item = sym (no_item P 0 refl) }
 
-      pub one_faulty : fault_item P question ≡ lowest_fault ok n → (refusal : Refusal)
-          → question_number refusal ≡ question → r ≡ Some (fault_in refusal) → Asked {A = Unit {0}} P question yes (Err refusal)
-      one_faulty item refusal q e =
+      pub one_faulty : {refusal : Refusal} → fault_item P (question_number refusal) ≡ lowest_fault ok n
+          → r ≡ Some (fault_in refusal) → Asked {A = Unit {0}} P (question_number refusal) yes (Err refusal)
+      one_faulty {refusal} item e =
           let f : IsLowestFault ok n (fault_in refusal) = subst Found e searched in
           record {
-            right_number = q ∙ rw (asks ∙ one_fails (fault_in refusal) f);
-            right_item = sym (ap (fault_item P) q ∙ item ∙ lowest_found ok n (fault_in refusal) f);
+            right_number = rw (asks ∙ one_fails (fault_in refusal) f);
+            right_item = sym (item ∙ lowest_found ok n (fault_in refusal) f);
           }

@@ -9,11 +9,9 @@ use Rattle.program.proofs.expressions.ask_exprs.Goals as goal
 pub returns-in-Some : goal.returns-in-Some
 returns-in-Some c =
     let P = program_in c.args.program.now in
-    one_faulty (expr_ok P) _ _ c.expr_count-count.ensures _ _ _ c.find.ensures.ran (λ x b q k. search (rules, tests)) P 2 refl
-    (item_2 P) _ refl c.in-Some.is
+    one_faulty (expr_ok P) _ c.expr_count-count.ensures _ _ c.find.ensures.ran (λ x b q k. search (rules, tests)) refl (item_2 P) c.in-Some.is
 
 pub returns-in-None : goal.returns-in-None
 returns-in-None c =
     let P = program_in c.args.program.now in
-    none_faulty (expr_ok P) _ _ c.expr_count-count.ensures _ _ _ c.find.ensures.ran (λ x b q k. search (rules, tests)) P 2 refl
-    c.in-None.is
+    none_faulty (expr_ok P) _ c.expr_count-count.ensures _ _ c.find.ensures.ran (λ x b q k. search (rules, tests)) refl c.in-None.is

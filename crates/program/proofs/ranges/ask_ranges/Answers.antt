@@ -9,11 +9,9 @@ use Rattle.program.proofs.ranges.ask_ranges.Goals as goal
 pub returns-in-Some : goal.returns-in-Some
 returns-in-Some c =
     let P = program_in c.args.program.now in
-    one_faulty (references_ok P) _ _ c.node_count-count.ensures _ _ _ c.find.ensures.ran (λ x b q k. search (rules, tests)) P 4 refl
-    (item_4 P) _ refl c.in-Some.is
+    one_faulty (references_ok P) _ c.node_count-count.ensures _ _ c.find.ensures.ran (λ x b q k. search (rules, tests)) refl (item_4 P) c.in-Some.is
 
 pub returns-in-None : goal.returns-in-None
 returns-in-None c =
     let P = program_in c.args.program.now in
-    none_faulty (references_ok P) _ _ c.node_count-count.ensures _ _ _ c.find.ensures.ran (λ x b q k. search (rules, tests)) P 4 refl
-    c.in-None.is
+    none_faulty (references_ok P) _ c.node_count-count.ensures _ _ c.find.ensures.ran (λ x b q k. search (rules, tests)) refl c.in-None.is

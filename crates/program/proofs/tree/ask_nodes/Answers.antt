@@ -9,11 +9,9 @@ use Rattle.program.proofs.tree.ask_nodes.Goals as goal
 pub returns-in-Some : goal.returns-in-Some
 returns-in-Some c =
     let P = program_in c.args.program.now in
-    one_faulty (node_ok P.nodes) _ _ c.node_count-count.ensures _ _ _ c.find.ensures.ran (λ x b q k. search (rules, tests)) P 3 refl
-    (item_3 P) _ refl c.in-Some.is
+    one_faulty (node_ok P.nodes) _ c.node_count-count.ensures _ _ c.find.ensures.ran (λ x b q k. search (rules, tests)) refl (item_3 P) c.in-Some.is
 
 pub returns-in-None : goal.returns-in-None
 returns-in-None c =
     let P = program_in c.args.program.now in
-    none_faulty (node_ok P.nodes) _ _ c.node_count-count.ensures _ _ _ c.find.ensures.ran (λ x b q k. search (rules, tests)) P 3 refl
-    c.in-None.is
+    none_faulty (node_ok P.nodes) _ c.node_count-count.ensures _ _ c.find.ensures.ran (λ x b q k. search (rules, tests)) refl c.in-None.is

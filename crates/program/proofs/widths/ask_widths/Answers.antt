@@ -26,12 +26,11 @@ pub returns-in-Some : goal.returns-in-Some
 returns-in-Some c =
     let P = program_in c.args.program.now in
     let as_many : length P.widths ≡ P.variables = omega arith in
-    one_faulty (ok P) _ _ refl _ _ _ c.find.ensures.ran (λ x b q k. search (rules, tests)) P 11 (asks P as_many)
-    (item_11 P as_many) _ refl c.in-Some.is
+    one_faulty (ok P) _ refl _ _ c.find.ensures.ran (λ x b q k. search (rules, tests)) (asks P as_many) (item_11 P as_many)
+    c.in-Some.is
 
 pub returns-in-None : goal.returns-in-None
 returns-in-None c =
     let P = program_in c.args.program.now in
     let as_many : length P.widths ≡ P.variables = omega arith in
-    none_faulty (ok P) _ _ refl _ _ _ c.find.ensures.ran (λ x b q k. search (rules, tests)) P 11 (asks P as_many)
-    c.in-None.is
+    none_faulty (ok P) _ refl _ _ c.find.ensures.ran (λ x b q k. search (rules, tests)) (asks P as_many) c.in-None.is
