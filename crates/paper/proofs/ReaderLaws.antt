@@ -21,7 +21,8 @@ use Rattle.semantics.proofs.Files.BytesLaws.{length-words}
 use Rattle.semantics.proofs.Files.FileLaws.{file_fits, parts_in_fit}
 use Rattle.semantics.proofs.Files.FileCallLaws.{sizes_yes, sizes_no}
 use Rattle.std.specs.Prelude.{Option, Some, None, MatchOption}
-use Rattle.program.specs.Answer.{program_of, CheckAnswer}
+use Rattle.program.specs.declared.refusal.Refusal.TheVariants.{Room}
+use Rattle.program.specs.Answer.{program_of, CheckAnswer, answer_to}
 use Rattle.program.proofs.CheckLaws.{first_1}
 use Rattle.paper.specs.declared.lengths.FileSizes.{FileSizes}
 use Rattle.paper.specs.Sizes.{sizes_from, sizes_in_code, given, SizesAnswer}
@@ -54,6 +55,12 @@ pub room_for_parts : (file : List ℕ) → file_ok file ≡ true → (c : Sizes)
 room_for_parts file ok c e b =
     let fit = parts_in_fit file ok in
     rw (fit.exprs, fit.nodes, fit.values, fit.widths, e) refl
+
+pub room_answer : (file : List ℕ) → file_ok file ≡ true → (c : Sizes) → c ≡ sizes_in file → (b : Parts) → {fit : Bool}
+    → leb (3 * c.exprs) (length b.exprs) && leb (5 * c.nodes) (length b.nodes)
+    && leb c.variables (length b.values) && leb c.variables (length b.widths)
+    ≡ fit → answer_to fit Room ≡ answer_to (all_fit (parts_in file) b) Room
+room_answer file ok c e b h = ap (λ (x : Bool). answer_to x Room) (sym h ∙ room_for_parts file ok c e b)
 
 -- ---- the parts of a file in lists
 

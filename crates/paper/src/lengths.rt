@@ -1,7 +1,8 @@
 // The sizes of a paper, and the lengths of its parts in words.
 ghost use Rattle.std.specs.Prelude.{◌≡◌, ◌*◌};
-ghost use Rattle.semantics.specs.Program.{expr_count, node_count};
+ghost use Rattle.semantics.specs.File.{sizes_of};
 ghost use Rattle.program.specs.Accepted.{accepted_in};
+ghost use Rattle.paper.specs.Sizes.{sizes_in_code};
 
 use program::Accepted;
 
@@ -16,19 +17,16 @@ pub struct FileSizes {
 
 // How many words the lists of expressions and nodes take, and the values and the widths each.
 #[derive(Clone, Copy, Debug)]
-pub struct Lengths {
+pub(crate) struct Lengths {
     pub exprs: usize,
     pub nodes: usize,
     pub vars: usize,
 }
 
-impl FileSizes {
-    pub fn of(program: &Accepted) -> FileSizes
-        ensures nodes { result.nodes ≡ node_count (accepted_in program.now).nodes }
-        ensures exprs { result.exprs ≡ expr_count (accepted_in program.now).exprs }
-        ensures vars { result.vars ≡ (accepted_in program.now).variables }
-        ensures chans { result.chans ≡ (accepted_in program.now).channels }
-    {
+impl From<&Accepted<'_>> for FileSizes {
+    ghost from_gives = { λ program sizes. sizes_in_code sizes ≡ sizes_of (accepted_in program.now) };
+
+    fn from(program: &Accepted<'_>) -> FileSizes {
         FileSizes {
             nodes: program.lists.node_count() as u16,
             exprs: program.lists.expr_count() as u16,
@@ -36,8 +34,10 @@ impl FileSizes {
             chans: program.lists.chans,
         }
     }
+}
 
-    pub fn lengths(self) -> Lengths
+impl FileSizes {
+    pub(crate) fn lengths(self) -> Lengths
         ensures exprs { result.exprs ≡ 3 * self.exprs }
         ensures nodes { result.nodes ≡ 5 * self.nodes }
         ensures vars { result.vars ≡ self.vars }

@@ -17,7 +17,7 @@ ghost use Rattle.program.specs.Answer.{program_in, number_of, item_of};
 
 pub use lengths::FileSizes;
 use program::{Program, Refusal, check};
-use reader::{check_in, fill_all, parts_fit};
+use reader::{ask_room, check_in, fill_all};
 use trailer::sizes_of_file;
 use words::put_words;
 use writer::{put_parts, trailer_of};
@@ -49,9 +49,7 @@ pub fn read(
         return Err(Refusal::File);
     };
     check_in(file, sizes)?;
-    if !parts_fit(sizes, exprs, nodes, values, widths) {
-        return Err(Refusal::Room);
-    }
+    ask_room(sizes, exprs, nodes, values, widths)?;
     fill_all(file, sizes, exprs, nodes, values, widths);
     Ok(())
 }
@@ -77,6 +75,10 @@ pub fn write(program: Program, values: &[u16], file: &mut [u8]) -> Result<(), Re
         return Err(Refusal::Room);
     }
     put_parts(program, values, file);
-    put_words(&trailer_of(FileSizes::of(&accepted)), file, before_trailer);
+    put_words(
+        &trailer_of(FileSizes::from(&accepted)),
+        file,
+        before_trailer,
+    );
     Ok(())
 }

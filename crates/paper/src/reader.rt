@@ -3,7 +3,7 @@
 ghost use Rattle.std.specs.Prelude.{◌≡◌, true, List, ℕ};
 ghost use Rattle.semantics.specs.File.{parts_in, program_in, file_ok, sizes_in};
 ghost use Rattle.semantics.specs.FileCalls.{all_fit, all_filled};
-ghost use Rattle.program.specs.Answer.{CheckAnswer, number_of, item_of};
+ghost use Rattle.program.specs.Answer.{CheckAnswer, number_of, item_of, answer_to};
 ghost use Rattle.paper.specs.Read.{parts_from};
 ghost use Rattle.paper.specs.Sizes.{sizes_in_code};
 
@@ -42,22 +42,24 @@ pub fn check_in(file: &[u8], sizes: FileSizes) -> Result<(), Refusal>
     Ok(())
 }
 
-// Question 13: whether the parts of a file fit into lists of these lengths.
-pub fn parts_fit(
+// Question 13: the parts of a file fit into lists of these lengths.
+pub fn ask_room(
     sizes: FileSizes,
     exprs: &[u16],
     nodes: &[u16],
     values: &[u16],
     widths: &[u16],
-) -> bool
+) -> Result<(), Refusal>
     ensures { (file : List ℕ) → file_ok file ≡ true → sizes_in_code sizes ≡ sizes_in file
-        → result ≡ all_fit (parts_in file) (parts_from exprs.now nodes.now values.now widths.now) }
+        → result ≡ answer_to
+        (all_fit (parts_in file) (parts_from exprs.now nodes.now values.now widths.now)) Refusal.Room }
 {
     let lengths = sizes.lengths();
-    (lengths.exprs <= exprs.len())
+    let fit = (lengths.exprs <= exprs.len())
         & (lengths.nodes <= nodes.len())
         & (lengths.vars <= values.len())
-        & (lengths.vars <= widths.len())
+        & (lengths.vars <= widths.len());
+    if fit { Ok(()) } else { Err(Refusal::Room) }
 }
 
 // Fills four lists with the parts of a file.

@@ -1,12 +1,12 @@
--- Laws of an answer: the item that check gives is that of its number, no refusal has the number 0, and the word for C is made
--- of number and item.
-use Rattle.std.proofs.Common.{◌≡◌, ℕ, ◌+◌, ◌*◌, ◌<◌, sym, ap, ◌∙◌, arith}
+-- Laws of an answer: the item that check gives is that of its number, no refusal has the number 0, the word for C is made of
+-- number and item, and the answer to a question tells whether it is answered yes.
+use Rattle.std.proofs.Common.{◌≡◌, ℕ, ◌+◌, ◌*◌, ◌<◌, Bool, true, false, Ok, Err, refl, sym, ap, ◌∙◌, arith}
 use Rattle.semantics.specs.Program.{Program}
 use Rattle.semantics.specs.Check.{fault_item}
 use Rattle.program.specs.declared.refusal.Refusal.{Refusal}
 use Rattle.program.specs.declared.refusal.Refusal.TheVariants.{Sizes, Expr, Node, Reference, Lengths, State, Entries, Channels, Stores, Loop, Width, File, Room}
 use Rattle.program.specs.Refusals.{question_number}
-use Rattle.program.specs.Answer.{CheckAnswer}
+use Rattle.program.specs.Answer.{CheckAnswer, answer_to}
 use Rattle.program.specs.Word.{number_in, item_in}
 
 pub check_item_lem : {P : Program} {q item : ℕ} → CheckAnswer P q item → fault_item P q ≡ item
@@ -31,3 +31,14 @@ some_number Loop = omega arith
 some_number (Width v) = omega arith
 some_number File = omega arith
 some_number Room = omega arith
+
+-- ---- the answer to a question
+
+pub answer_to-ok : (passes : Bool) (refusal : Refusal) → Ok tt ≡ answer_to passes refusal → passes ≡ true
+answer_to-ok true refusal e = refl
+answer_to-ok false refusal e = cc
+
+pub answer_to-err : (passes : Bool) (refusal : Refusal) {given : Refusal} → Err given ≡ answer_to passes refusal
+    → (passes ≡ false) × (given ≡ refusal)
+answer_to-err true refusal e = cc
+answer_to-err false refusal e = (refl, cc)

@@ -1,15 +1,16 @@
 -- `write` asks what check asks, 5 of the values and 13, and then puts the parts and the trailer.
 use Rattle.std.proofs.Common.{◌≡◌, ℕ, ◌+◌, ◌≤◌, List, length, refl, sym, ap, ◌∙◌, ne_eqb, arith}
+use Rattle.std.proofs.lemmas.Result.{err_from_is_err_and}
 use Rattle.semantics.specs.Program.{Program}
 use Rattle.semantics.specs.Check.{check_number}
-use Rattle.semantics.specs.File.{sizes_of, trailer}
+use Rattle.semantics.specs.File.{exprs_back, sizes_of, trailer}
 use Rattle.semantics.proofs.Lists.QuestionLaws.{accepted}
 use Rattle.semantics.proofs.Files.FileCallLaws.{write_check, write_5}
 use Rattle.program.specs.declared.Program.{Program as Lent}
 use Rattle.program.specs.Answer.{program_in}
 use Rattle.program.proofs.AnswerLaws.{check_item_lem, some_number}
-use Rattle.paper.specs.Sizes.{sizes_from, sizes_in_code}
-use Rattle.paper.proofs.AnswerLaws.{by_writing, passed_on}
+use Rattle.paper.specs.Sizes.{sizes_in_code}
+use Rattle.paper.proofs.AnswerLaws.{by_writing}
 use Rattle.paper.proofs.WriterLaws.{answer_13, answer_0}
 use Rattle.paper.proofs.write.Goals as goal
 
@@ -32,8 +33,8 @@ short P ok values as_many =
 pub returns-in_err-accepted : goal.returns-in_err-accepted
 returns-in_err-accepted c =
     let checked = c.in_err-accepted.ensures.answer in
-    let (number, item) = passed_on _ _ c.from_residual.ensures in
-    rw (number, item)
+    let (_, is, same) = err_from_is_err_and c.from_residual.result c.from_residual.ensures.1 in
+    rw (is, same)
     (by_writing (write_check _ _ _ _ _ checked.right_number
     (ne_eqb _ _ (λ e. let some = some_number c.in_err-accepted.field-0.0 in absurd (omega arith)))
     (check_item_lem checked)) _ refl)
@@ -71,16 +72,13 @@ pub trailer_of-requires : goal.trailer_of-requires
 trailer_of-requires c =
     let it = c.in_ok-accepted.accepted in
     let s = (accepted (program_in it.lists) it.accepted).sizes in
-    let o = c.of.ensures in
-    omega (arith, s.nodes_fit, s.exprs_fit, s.variables_fit, o.nodes, o.exprs, o.vars)
+    omega (arith, s.nodes_fit, s.exprs_fit, s.variables_fit, ap exprs_back c.from.ensures)
 
 pub returns : goal.returns
 returns c =
     let it = c.in_ok-accepted in
-    let o = c.of.ensures in
-    let sizes : sizes_in_code c.of.result ≡ sizes_of (program_in c.args.program) =
-    (λ i. sizes_from (o.nodes i) (o.exprs i) (o.vars i) (o.chans i))
-    ∙ ap (λ (p : Lent). sizes_of (program_in p)) it.ensures.same in
+    let sizes : sizes_in_code c.from.result ≡ sizes_of (program_in c.args.program) =
+    c.from.ensures ∙ ap (λ (p : Lent). sizes_of (program_in p)) it.ensures.same in
     answer_0 _ _ _ it.ensures.answer.right_number
     c.if-values-program.false c.if-file-before_trailer.false _ _ _
     c.put_parts.ensures (c.trailer_of.ensures ∙ ap trailer sizes) c.put_words.ensures

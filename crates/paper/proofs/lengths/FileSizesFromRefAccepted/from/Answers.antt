@@ -1,8 +1,8 @@
--- `of` has the counts of an accepted program, which are at most 1,024.
+-- The sizes of an accepted program are its counts, which are at most 1,024.
 use Rattle.std.proofs.Common.{arith}
 use Rattle.program.specs.Accepted.{accepted_in}
 use Rattle.semantics.proofs.Lists.QuestionLaws.{accepted}
-use Rattle.paper.proofs.lengths.FileSizes.of.Goals as goal
+use Rattle.paper.proofs.lengths.FileSizesFromRefAccepted.from.Goals as goal
 
 pub overflow_cast-result : goal.overflow_cast-result
 overflow_cast-result c =
