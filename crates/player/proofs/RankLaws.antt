@@ -1,13 +1,14 @@
 -- The rank of a slot, and what one claim changes: its own slot, and no other.
 use mathlib.Core.Path.{◌≡◌, refl, sym, ap, ◌∙◌, subst}
-use mathlib.Core.Bool.{Bool, true, false, cond}
+use mathlib.Core.Bool.{Bool, true, false, cond, not, not-not}
 use mathlib.Core.List.{List}
 use Prim.Native.Nat.{ℕ, suc, ◌≤◌, ◌<◌}
 use native.Mathlib.Nat.{le_refl}
 use native.Mathlib.Omega.{arith}
-use lib.Dec.{eqb}
+use lib.Dec.{eqb, eqb-suc-zero}
 use lib.ListN.{length, get_or, set, length-set}
 use borrow.Author.Tests.{eq-eqb, ne_eqb}
+use Rattle.std.specs.Prelude.{Option, Some, None, is_some, MatchOption}
 use Rattle.semantics.proofs.Lists.ListLaws.{set_reads}
 use Rattle.player.specs.declared.claims.Slot.{Slot}
 use Rattle.player.specs.declared.claims.Slots.{Slots}
@@ -21,13 +22,11 @@ rank stamp x = cond (eqb x.stamp stamp) (suc x.node) 0
 pub rank_none : (s : Slots) (stamp slot : ℕ) → (slot_at s slot).stamp < stamp → rank_in s stamp slot ≡ 0
 rank_none s stamp slot l = rw (ne_eqb (slot_at s slot).stamp stamp (λ e. omega arith))
 
--- the node of a rank
-pub rank_node : (s : Slots) (stamp slot : ℕ) {i : ℕ} → rank_in s stamp slot ≡ suc i → (slot_at s slot).node ≡ i
-rank_node s stamp slot {i} = pick (eqb (slot_at s slot).stamp stamp)
-  where
-    pick : (b : Bool) → cond b (suc (slot_at s slot).node) 0 ≡ suc i → (slot_at s slot).node ≡ i
-    pick true e = omega arith
-    pick false e = absurd (omega arith)
+-- whether no node has claimed the slot
+pub no_claimant : (rank : ℕ) (r : Option ℕ) {none : Bool} → MatchOption r (rank ≡ 0) (λ i. rank ≡ suc i)
+    → is_some r ≡ not none → none ≡ eqb rank 0
+no_claimant rank None {none} h e = rw h (sym (not-not none) ∙ ap not (sym e))
+no_claimant rank (Some i) {none} h e = rw (h, eqb-suc-zero i) (sym (not-not none) ∙ ap not (sym e))
 
 pub unclaimed_rank : {s : Slots} {stamp : ℕ} (slot : ℕ) → Unclaimed s stamp → slot < 256 → rank_in s stamp slot ≡ 0
 unclaimed_rank {s} {stamp} slot u l = rank_none s stamp slot (u.stamps slot l)

@@ -1,24 +1,22 @@
 -- The right sides, entry by entry: what one entry leaves, and what the entries so far come to.
-use Rattle.std.proofs.Common.{◌≡◌, ◌≢◌, ℕ, ◌+◌, ◌≤◌, ◌<◌, Bool, true, false, true≢false, List, length, get_or, set}
+use Rattle.std.proofs.Common.{◌≡◌, ℕ, ◌+◌, ◌≤◌, ◌<◌, Bool, true, false, true≢false, List, length, get_or, set}
 use Rattle.std.proofs.Common.{refl, sym, ap, ◌∙◌, subst}
-use Rattle.std.proofs.Math.Option.{some}
 use borrow.Author.Tests.{eqb-false}
 use Rattle.semantics.specs.Program.{Program, expr_count}
-use Rattle.semantics.specs.Expressions.{expr_values}
-use Rattle.semantics.specs.Completion.{stores, source}
+use Rattle.semantics.specs.Completion.{stores}
 use Rattle.player.specs.declared.claims.Slots.{Slots}
 use Rattle.player.specs.declared.claims.Claims.{Claims as CodeClaims}
 use Rattle.player.specs.declared.memo.Memo.{Memo}
 use Rattle.player.specs.declared.stores.Store.{Store}
 use Rattle.player.specs.declared.stores.Stores.{Stores}
 use Rattle.player.specs.Memo.{Known, SameMoment, Worked, value_of}
-use Rattle.player.specs.Claims.{Claim, UpTo, Aged, rank_in}
+use Rattle.player.specs.Claims.{Claim, UpTo, Aged}
 use Rattle.player.specs.Channels.{PairedEntry}
-use Rattle.player.specs.Stores.{Storing, RightSides, SidesTo, target_at}
+use Rattle.player.specs.Stores.{Storing, StoresAt, RightSides, SidesTo}
 use Rattle.player.proofs.RankLaws.{claim_old}
 use Rattle.player.proofs.StoreLaws.{target_fits, source_inside}
 use Rattle.player.proofs.MemoLaws.{same_values}
-use Rattle.player.proofs.SideLaws.{entry_at, with_writers, still_paired}
+use Rattle.player.proofs.SideLaws.{entry_at, with_writers}
 use Rattle.player.proofs.SideLaws.{sides_none, sides_room, sides_skip, sides_worked, not_apart, all_apart, all-pending}
 
 -- The first k entries are done, and have n stores.
@@ -75,17 +73,18 @@ module _ {P : Program} {entries values : List ℕ} {before : Memo} {claims₀ : 
         stamp = h.stamp;
       }
 
-      -- an entry that stores to variable v, which it has asked for
-      module _ (s : stores P x.cycle.marks entry ≡ true) {v : ℕ} (at : v ≡ target_at P.nodes entry) where
+      -- an entry that stores to variable v the value of expression e
+      module _ {v e : ℕ} (s : StoresAt P x.cycle.marks entry v e) where
         pub right_target : v < 256
-        right_target = rw at (target_fits right_entry s)
+        right_target = rw s.place (target_fits right_entry s.storing)
 
+        pub right_expression : e < expr_count P.exprs
+        right_expression = source_inside right_entry e s.right_side
+
+        -- it has asked for the variable
         module _ {writers : Slots} {free : Bool} (c : Claim claims.writers writers claims.stamp v entry free) where
           abbrev claimed : CodeClaims
           claimed = with_writers x.cycle claims writers
-
-          abbrev pub claimed_entry : PairedEntry P claimed entry
-          claimed_entry = entry_at x.cycle (still_paired x.cycle writers h.sides.paired) k l
 
           claimed_aged : Aged claimed claims₀.stamp
           claimed_aged = record {
@@ -99,8 +98,7 @@ module _ {P : Program} {entries values : List ℕ} {before : Memo} {claims₀ : 
           pub right_refused : (stores : Stores) → free ≡ false
               → RightSides P x.cycle.marks entries values before claims₀ false memo claimed stores
           right_refused stores f = record {
-            answer = sym (not_apart x.cycle values h.sides l s
-                (subst (λ (t : ℕ). rank_in claims.writers claims.stamp t ≢ 0) at (eqb-false _ 0 (sym c.was_free ∙ f))));
+            answer = sym (not_apart x.cycle values h.sides l s (eqb-false _ 0 (sym c.was_free ∙ f)));
             known = h.known;
             same = h.same;
             pending = λ r. absurd (true≢false (sym r));
@@ -108,40 +106,22 @@ module _ {P : Program} {entries values : List ℕ} {before : Memo} {claims₀ : 
             stamp = h.stamp;
           }
 
-          -- the expression that it stores
-          module _ {e : ℕ} (q : source P x.cycle.marks entry ≡ some e) where
-            pub right_expression : e < expr_count P.exprs
-            right_expression = source_inside right_entry e q
-
-            -- its right side is worked and listed
-            pub right_more : {value : ℕ} {memo' : Memo} → free ≡ true → length list ≡ 1024
-                → Worked P.exprs memo memo' e value
-                → RightSidesTo x memo' claimed (set list n (record { variable = record { 0 = v }; value = value }))
-                (n + 1) (k + 1)
-            right_more {value} {memo'} f size w = record {
-              sides = subst
-                  (λ (t : ℕ). SidesTo P x.cycle.marks entries values claimed
-                  (set list n (record { variable = record { 0 = t }; value = value })) (n + 1) (k + 1))
-                  (sym at)
-                  (sides_worked x.cycle values h.sides l s made value h.aged.writers.size size x.values_fit right);
-              known = w.known;
-              same = record {
-                variables = w.same.variables ∙ h.same.variables;
-                present = w.same.present ∙ h.same.present;
-              };
-              aged = claimed_aged;
-              stamp = h.stamp;
-            }
-              where
-                made : Claim claims.writers writers claims.stamp (target_at P.nodes entry) entry true
-                made =
-                    subst (λ (t : ℕ). Claim claims.writers writers claims.stamp t entry true) at
-                    (subst (λ (b : Bool). Claim claims.writers writers claims.stamp v entry b) f c)
-
-                right : (e' : ℕ) → source P x.cycle.marks entry ≡ some e'
-                    → value ≡ get_or (expr_values P.exprs values) e' 0
-                right e' q' =
-                    let same : e ≡ e' = cc in
-                    w.right ∙ ap (λ (vs : List ℕ). value_of P.exprs vs e) h.same.variables
-                    ∙ ap (λ (table : List ℕ). get_or table e 0) (same_values P.exprs values before x.holds)
-                    ∙ ap (λ (i : ℕ). get_or (expr_values P.exprs values) i 0) same
+          -- its right side is worked and listed
+          pub right_more : {value : ℕ} {memo' : Memo} → free ≡ true → length list ≡ 1024
+              → Worked P.exprs memo memo' e value
+              → RightSidesTo x memo' claimed (set list n (record { variable = record { 0 = v }; value = value }))
+              (n + 1) (k + 1)
+          right_more {value} {memo'} f size w = record {
+            sides = sides_worked x.cycle values h.sides l s
+                (subst (λ (b : Bool). Claim claims.writers writers claims.stamp v entry b) f c) value
+                h.aged.writers.size size x.values_fit
+                (w.right ∙ ap (λ (vs : List ℕ). value_of P.exprs vs e) h.same.variables
+                ∙ ap (λ (table : List ℕ). get_or table e 0) (same_values P.exprs values before x.holds));
+            known = w.known;
+            same = record {
+              variables = w.same.variables ∙ h.same.variables;
+              present = w.same.present ∙ h.same.present;
+            };
+            aged = claimed_aged;
+            stamp = h.stamp;
+          }

@@ -4,7 +4,6 @@ use mathlib.Core.List.{foldl}
 use Rattle.std.proofs.Common.{◌≡◌, ◌≢◌, ℕ, ◌+◌, ◌≤◌, ◌<◌, Bool, true, false, ◌&&◌, eqb, List, length, get_or, set}
 use Rattle.std.proofs.Common.{drop, refl, sym, ap, ◌∙◌, subst, inl, inr, arith, add-one}
 use Rattle.std.proofs.Math.ListN.{drop_of_length-le}
-use Rattle.std.proofs.Math.Option.{some}
 use lib.Dec.{leb}
 use native.Mathlib.Nat.{le_refl}
 use borrow.Author.Tests.{le-leb, leb-true, eqb-true}
@@ -13,7 +12,7 @@ use Rattle.semantics.specs.Program.{Program}
 use Rattle.semantics.specs.Widths.{truncated}
 use Rattle.semantics.specs.Expressions.{expr_values}
 use Rattle.semantics.specs.State.{active}
-use Rattle.semantics.specs.Completion.{stores, source, targets_apart}
+use Rattle.semantics.specs.Completion.{stores, targets_apart}
 use Rattle.semantics.specs.Cycle.{new_values}
 use Rattle.semantics.proofs.Lists.Logic.{refuted, lt_or_le}
 use Rattle.semantics.proofs.Lists.NumberLaws.{every_below, all-below}
@@ -22,11 +21,11 @@ use Rattle.player.specs.declared.claims.Claims.{Claims as CodeClaims}
 use Rattle.player.specs.declared.stores.Store.{Store}
 use Rattle.player.specs.Claims.{Claim, Unclaimed, rank_in, is_free}
 use Rattle.player.specs.Channels.{CycleOf, Paired, PairedEntry}
-use Rattle.player.specs.Stores.{SidesTo, Pending, put_first, store_from, variable_at, target_at}
+use Rattle.player.specs.Stores.{StoresAt, SidesTo, Pending, put_first, store_from, variable_at, target_at}
 use Rattle.player.proofs.RankLaws.{unclaimed_rank, claimed_key, claimed_nothing}
 use Rattle.player.proofs.ClaimLaws.{claims_none, claims_more, claims_refused, claims-all}
 use Rattle.player.proofs.CycleLaws.{entry_marked, single_entries, entries_few, fold_next}
-use Rattle.player.proofs.StoreLaws.{target_inside, target_fits, some_source, stored, not_stored}
+use Rattle.player.proofs.StoreLaws.{target_inside, target_fits, stored, not_stored}
 use Rattle.player.proofs.HeldLaws.{put_written, written_before, written_here}
 
 -- ---- the entries of a cycle
@@ -116,21 +115,6 @@ module _ {P : Program} {entries : List ℕ} (x : CycleOf P entries) where
         pub sides_room : n < 1024
         sides_room = let few = h.few in let most = entries_few x in omega arith
 
-        pub not_apart : storing entry ≡ true → rank_in claims.writers claims.stamp target ≢ 0
-            → targets_apart P x.marks ≡ false
-        unfolding targets_apart
-        not_apart s taken =
-            let busy : is_free storing (target_at P.nodes) claims.writers claims.stamp entry ≡ false =
-            rw s (refuted _ (λ e. taken (eqb-true (rank_in claims.writers claims.stamp target) 0 e))) in
-            let two =
-            (claims_refused storing (target_at P.nodes) claims.stamp entries k l claims.writers h.claimed inside busy).1
-            in
-            let v-fits = target_inside side_entry s in
-            refuted _ (λ a.
-            let most = sym (single_storing target) ∙ every_below single P.variables a target v-fits in
-            let least = leb-true (length (filter (stores_to target) entries)) 1 most in
-            omega arith)
-
         -- the entry's store in the rules gives these values
         next : {values' : List ℕ}
             → store_from P x.marks values (put_first keep list n values) entry ≡ values'
@@ -154,40 +138,59 @@ module _ {P : Program} {entries : List ℕ} (x : CycleOf P entries) where
               rest = next (not_stored side_entry (expr_values P.exprs values) (put_first keep list n values) s);
             }
 
-        -- an entry that has claimed its variable, and whose right side is listed
-        module _ {writers : Slots} (s : storing entry ≡ true)
-            (c : Claim claims.writers writers claims.stamp target entry true) (value : ℕ) where
-          abbrev listed : Store
-          listed = record { variable = record { 0 = target }; value = value }
+        -- an entry that stores to variable v the value of expression e
+        module _ {v e : ℕ} (s : StoresAt P x.marks entry v e) where
+          pub store_inside : v < P.variables
+          store_inside = rw s.place (target_inside side_entry s.storing)
 
-          pub sides_worked : length claims.writers.slots ≡ 256 → length list ≡ 1024 → length values ≡ P.variables
-              → ((e : ℕ) → source P x.marks entry ≡ some e
-              → value ≡ get_or (expr_values P.exprs values) e 0)
-              → SidesTo P x.marks entries values (with_writers claims writers) (set list n listed) (n + 1) (k + 1)
-          sides_worked size full fit right =
-              let (e, q) = some_source side_entry s in
-              let few = h.few in
-              let room : n < length list = omega (arith, sides_room) in
-              let here : target < length values = rw fit (target_inside side_entry s) in
-              record {
-                paired = still_paired writers h.paired;
-                claimed = claims_more storing (target_at P.nodes) claims.stamp entries k l claims.writers writers
-                    h.claimed inside (rw s (sym c.was_free))
-                    (claimed_key storing (target_at P.nodes) claims.writers writers claims.stamp entry size c refl
-                    (inside s) s);
-                few = omega arith;
-                targets = λ j u. elim (lt_or_le j n) [
-                  | inl m ↦
-                      subst (λ (a : Store). a.variable.0 < length values) (sym (written_before list n listed j m))
-                      (h.targets j m)
-                  | inr m ↦
-                      let last : n ≡ j = omega arith in
-                      subst (λ (i : ℕ). variable_at (set list n listed) i < length values) last
-                      (subst (λ (a : Store). a.variable.0 < length values) (sym (written_here list n listed room)) here)
-                ];
-                rest = next
-                    (stored side_entry (expr_values P.exprs values) (put_first keep list n values) e s q
-                    ∙ ap (λ (v : ℕ). set (put_first keep list n values) target (keep target v)) (sym (right e q))
-                    ∙ sym (put_written list n listed keep values room)
-                    ∙ ap (λ (i : ℕ). put_first keep (set list n listed) i values) (sym (add-one n)));
-              }
+          -- the variable was claimed already
+          pub not_apart : rank_in claims.writers claims.stamp v ≢ 0 → targets_apart P x.marks ≡ false
+          unfolding targets_apart
+          not_apart taken =
+              let busy : is_free storing (target_at P.nodes) claims.writers claims.stamp entry ≡ false =
+              rw (s.storing, ← s.place)
+              (refuted _ (λ z. taken (eqb-true (rank_in claims.writers claims.stamp v) 0 z))) in
+              let two =
+              (claims_refused storing (target_at P.nodes) claims.stamp entries k l claims.writers h.claimed inside busy).1
+              in
+              refuted _ (λ a.
+              let most = sym (single_storing target)
+              ∙ every_below single P.variables a target (target_inside side_entry s.storing) in
+              let least = leb-true (length (filter (stores_to target) entries)) 1 most in
+              omega arith)
+
+          -- it claims the variable, and its right side is listed
+          module _ {writers : Slots} (c : Claim claims.writers writers claims.stamp v entry true) (value : ℕ) where
+            abbrev listed : Store
+            listed = record { variable = record { 0 = v }; value = value }
+
+            pub sides_worked : length claims.writers.slots ≡ 256 → length list ≡ 1024 → length values ≡ P.variables
+                → value ≡ get_or (expr_values P.exprs values) e 0
+                → SidesTo P x.marks entries values (with_writers claims writers) (set list n listed) (n + 1) (k + 1)
+            sides_worked size full fit right =
+                let few = h.few in
+                let room : n < length list = omega (arith, sides_room) in
+                let here : v < length values = rw fit store_inside in
+                record {
+                  paired = still_paired writers h.paired;
+                  claimed = claims_more storing (target_at P.nodes) claims.stamp entries k l claims.writers writers
+                      h.claimed inside (rw (s.storing, ← s.place) (sym c.was_free))
+                      (claimed_key storing (target_at P.nodes) claims.writers writers claims.stamp entry size
+                      (subst (λ (t : ℕ). Claim claims.writers writers claims.stamp t entry true) s.place c) refl
+                      (inside s.storing) s.storing);
+                  few = omega arith;
+                  targets = λ j u. elim (lt_or_le j n) [
+                    | inl m ↦
+                        subst (λ (a : Store). a.variable.0 < length values) (sym (written_before list n listed j m))
+                        (h.targets j m)
+                    | inr m ↦
+                        let last : n ≡ j = omega arith in
+                        subst (λ (i : ℕ). variable_at (set list n listed) i < length values) last
+                        (subst (λ (a : Store). a.variable.0 < length values) (sym (written_here list n listed room)) here)
+                  ];
+                  rest = next
+                      (stored side_entry (expr_values P.exprs values) (put_first keep list n values) s
+                      ∙ ap (λ (w : ℕ). set (put_first keep list n values) v (keep v w)) (sym right)
+                      ∙ sym (put_written list n listed keep values room)
+                      ∙ ap (λ (i : ℕ). put_first keep (set list n listed) i values) (sym (add-one n)));
+                }

@@ -4,37 +4,25 @@ use mathlib.Core.Bool.{Bool, true, false, cond, not, ◌&&◌, true≢false, and
 use mathlib.Core.List.{List, [], ◌∷◌}
 use mathlib.Core.Option.{Option, some}
 use mathlib.Core.Logic.{inl, inr}
-use Prim.Native.Nat.{ℕ, ◌<◌}
+use Prim.Native.Nat.{ℕ, suc, ◌<◌}
 use native.Mathlib.Omega.{arith}
-use lib.Dec.{eqb}
+use lib.Dec.{eqb, eqb-suc-zero}
 use lib.ListN.{get_or, set}
-use Rattle.semantics.specs.Program.{Program, Kind, expr_count, node_count, kind_at, a_at, b_at, leaf_test}
-use Rattle.semantics.specs.Program.Kind.{SEQ, PAR, IF, WHL, LEAF, UNKNOWN}
-use Rattle.semantics.specs.Program.Leaf.{ASG, IN, OUT, DLY}
+use Rattle.semantics.specs.Program.{Program, expr_count, node_count, kind_at, a_at, b_at}
+use Rattle.semantics.specs.Program.Kind.{LEAF}
+use Rattle.semantics.specs.Program.Leaf.{ASG, IN}
 use Rattle.semantics.specs.Widths.{truncated}
 use Rattle.semantics.specs.State.{marked}
 use Rattle.semantics.specs.Completion.{is_asg, is_in, is_out, sent_by, store_value, marked_on, waits, stores, source}
 use Rattle.semantics.specs.Completion.{store}
-use Rattle.semantics.proofs.Lists.Logic.{and_left, and_right, or_cases, true_or_false}
+use Rattle.semantics.proofs.Lists.Logic.{and_left, and_right, or_cases}
 use Rattle.player.specs.declared.claims.Claims.{Claims}
-use Rattle.player.specs.Claims.{rank_of, rank_in, slot_at}
+use Rattle.player.specs.Claims.{rank_of, rank_in}
 use Rattle.player.specs.Channels.{PairedEntry, has_kind}
-use Rattle.player.specs.Stores.{target_at}
-use Rattle.player.proofs.RankLaws.{rank_node}
-use Rattle.player.proofs.CycleLaws.{first_active, marked_node, in_channel, asg_variable, in_variable}
-use Rattle.player.proofs.CycleLaws.{asg_expression, out_expression, channel_fits, variable_fits}
+use Rattle.player.specs.Stores.{target_at, StoresAt}
+use Rattle.player.proofs.CycleLaws.{first_active, marked_node, in_fits, asg_variable, in_variable, variable_fits}
+use Rattle.player.proofs.CycleLaws.{asg_expression, out_expression}
 use Rattle.player.proofs.PairingLaws.{in_waits, never_waits}
-
-in_leaf : (k : Kind) → leaf_test is_in k ≡ true → k ≡ LEAF IN
-in_leaf SEQ h = absurd (true≢false (sym h))
-in_leaf PAR h = absurd (true≢false (sym h))
-in_leaf IF h = absurd (true≢false (sym h))
-in_leaf WHL h = absurd (true≢false (sym h))
-in_leaf UNKNOWN h = absurd (true≢false (sym h))
-in_leaf (LEAF IN) h = refl
-in_leaf (LEAF ASG) h = absurd (true≢false (sym h))
-in_leaf (LEAF OUT) h = absurd (true≢false (sym h))
-in_leaf (LEAF DLY) h = absurd (true≢false (sym h))
 
 -- ---- one node
 
@@ -47,12 +35,12 @@ module _ {P : Program} {claims : Claims} {i : ℕ} (x : PairedEntry P claims i) 
   abbrev entry_source : Option ℕ
   entry_source = source P x.cycle.marks i
 
-  pub asg_stores : kind_at P.nodes i ≡ LEAF ASG → entry_stores ≡ true
-  asg_stores k = rw (never_waits P x.cycle.marks i (λ e. cc) (λ e. cc), k)
-
-  pub in_stores : kind_at P.nodes i ≡ LEAF IN
-      → entry_stores ≡ not (eqb (rank_in claims.outputs claims.stamp (a_at P.nodes i)) 0)
-  in_stores k = rw (in_waits x.cycle i x.is_marked x.paired k, k) (and-true _)
+  pub asg_stores : kind_at P.nodes i ≡ LEAF ASG → StoresAt P x.cycle.marks i (a_at P.nodes i) (b_at P.nodes i)
+  asg_stores k = record {
+    storing = rw (never_waits P x.cycle.marks i (λ e. cc) (λ e. cc), k);
+    place = rw k;
+    right_side = rw k;
+  }
 
   -- an ASG or an IN
   in_kind : entry_stores ≡ true → has_kind P.nodes is_asg i ≡ false → has_kind P.nodes is_in i ≡ true
@@ -60,6 +48,8 @@ module _ {P : Program} {claims : Claims} {i : ℕ} (x : PairedEntry P claims i) 
       elim (or_cases (has_kind P.nodes is_asg i) (has_kind P.nodes is_in i)
       (and_right (not (waits P x.cycle.marks i)) _ h))
       [ inl e ↦ absurd (true≢false (sym e ∙ a)) | inr e ↦ e ]
+
+  -- ---- the variable that it stores to
 
   pub target_inside : entry_stores ≡ true → target_at P.nodes i < P.variables
   target_inside h = pick (has_kind P.nodes is_asg i) refl
@@ -73,14 +63,10 @@ module _ {P : Program} {claims : Claims} {i : ℕ} (x : PairedEntry P claims i) 
 
   -- ---- the expression that it stores
 
-  -- the OUT marked on the channel of an IN that stores is the node beside the channel's stamp
+  -- the OUT marked on the channel of an IN
   abbrev sent : List ℕ
   sent = marked_on P x.cycle.marks is_out (a_at P.nodes i)
 
-  abbrev sender : ℕ
-  sender = (slot_at claims.outputs (a_at P.nodes i)).node
-
-  -- it is a marked OUT
   sender_out : {y : ℕ} {ys : List ℕ} → sent ≡ y ∷ ys → (marked x.cycle.marks y ≡ true)
       × (has_kind P.nodes is_out y ≡ true)
   sender_out {y} {ys} e =
@@ -88,38 +74,36 @@ module _ {P : Program} {claims : Claims} {i : ℕ} (x : PairedEntry P claims i) 
       e in
       (h.0, and_left _ _ h.1)
 
-  module _ (h : entry_stores ≡ true) (a : has_kind P.nodes is_asg i ≡ false) where
-    -- the channel of an IN that stores
-    pub store_channel : a_at P.nodes i < 256
-    store_channel = channel_fits x.cycle (in_channel x.cycle i x.is_marked (in_kind h a))
+  module _ (k : kind_at P.nodes i ≡ LEAF IN) where
+    abbrev rank : ℕ
+    rank = rank_in claims.outputs claims.stamp (a_at P.nodes i)
 
-    sent_by_lem : (rest : List ℕ) × (sent ≡ sender ∷ rest)
-    sent_by_lem =
-        let claimed = sym (in_stores (in_leaf (kind_at P.nodes i) (in_kind h a))) ∙ h in
-        pick sent refl (x.paired.outputs (a_at P.nodes i) store_channel) claimed
-      where
-        pick : (xs : List ℕ) → sent ≡ xs → rank_in claims.outputs claims.stamp (a_at P.nodes i) ≡ rank_of xs
-            → not (eqb (rank_in claims.outputs claims.stamp (a_at P.nodes i)) 0) ≡ true
-            → (rest : List ℕ) × (sent ≡ sender ∷ rest)
-        pick [] e rank claimed = absurd (true≢false (sym claimed ∙ rw rank))
-        pick (y ∷ ys) e rank claimed = (
-          ys,
-          e
-              ∙ ap (λ (n : ℕ). n ∷ ys) (sym (rank_node claims.outputs claims.stamp (a_at P.nodes i) rank)),
-        )
+    in_stores : stores P x.cycle.marks i ≡ not (eqb rank 0)
+    in_stores = rw (in_waits x.cycle i x.is_marked x.paired k, k) (and-true _)
 
-    pub in_source : entry_source ≡ some (b_at P.nodes sender)
-    in_source = rw a (ap (sent_by P.nodes) sent_by_lem.1)
+    -- no OUT has claimed the channel
+    pub in_alone : rank ≡ 0 → stores P x.cycle.marks i ≡ false
+    in_alone r = in_stores ∙ rw r
 
-    pub sender_node : sender < node_count P.nodes
-    sender_node = marked_node x.cycle sender (sender_out sent_by_lem.1).0
+    -- node j has
+    module _ {j : ℕ} (r : rank ≡ suc j) where
+      sent_first : (rest : List ℕ) × (sent ≡ j ∷ rest)
+      sent_first =
+          pick sent refl (sym (x.paired.outputs (a_at P.nodes i) (in_fits x k)) ∙ r)
+        where
+          pick : (xs : List ℕ) → sent ≡ xs → rank_of xs ≡ suc j → (rest : List ℕ) × (sent ≡ j ∷ rest)
+          pick [] e q = absurd (omega arith)
+          pick (y ∷ ys) e q = let same : y ≡ j = omega arith in (ys, e ∙ ap (λ (n : ℕ). n ∷ ys) same)
 
-  pub some_source : entry_stores ≡ true → (e : ℕ) × (entry_source ≡ some e)
-  some_source h =
-      elim (true_or_false (has_kind P.nodes is_asg i)) [
-        | inl k ↦ (b_at P.nodes i, rw k)
-        | inr k ↦ (b_at P.nodes sender, in_source h k)
-      ]
+      pub sender_node : j < node_count P.nodes
+      sender_node = marked_node x.cycle j (sender_out sent_first.1).0
+
+      pub in_stored : StoresAt P x.cycle.marks i (b_at P.nodes i) (b_at P.nodes j)
+      in_stored = record {
+        storing = in_stores ∙ rw (r, eqb-suc-zero j);
+        place = rw k;
+        right_side = rw k (ap (sent_by P.nodes) sent_first.1);
+      }
 
   pub source_inside : (e : ℕ) → entry_source ≡ some e → e < expr_count P.exprs
   source_inside e q = pick (has_kind P.nodes is_asg i) refl q
@@ -140,11 +124,11 @@ module _ {P : Program} {claims : Claims} {i : ℕ} (x : PairedEntry P claims i) 
   -- ---- its store
 
   module _ (table values : List ℕ) where
-    pub stored : (e : ℕ) → entry_stores ≡ true → entry_source ≡ some e
-        → store P x.cycle.marks table values i
-        ≡ set values (target_at P.nodes i) (truncated P.widths (target_at P.nodes i) (get_or table e 0))
+    pub stored : {v e : ℕ} → StoresAt P x.cycle.marks i v e
+        → store P x.cycle.marks table values i ≡ set values v (truncated P.widths v (get_or table e 0))
     unfolding store
-    stored e s q = rw s (ap (store_value P.widths table values (target_at P.nodes i)) q)
+    stored s =
+        rw (s.storing, s.place) (ap (store_value P.widths table values (target_at P.nodes i)) s.right_side)
 
     pub not_stored : entry_stores ≡ false → store P x.cycle.marks table values i ≡ values
     unfolding store

@@ -1,7 +1,7 @@
 -- What a cycle claims: a slot for each channel that an IN claims, for each that an OUT claims, and for each variable that a
 -- store claims. A slot is claimed in the cycle whose stamp it has; stamps rise from cycle to cycle, so that no slot is ever
 -- cleared.
-use Rattle.std.specs.Prelude.{◌≡◌, Bool, cond, not, ◌&&◌, ◌||◌, List, [], ◌∷◌, ℕ, suc, ◌≤◌, ◌<◌, eqb, length, get_or, set}
+use Rattle.std.specs.Prelude.{◌≡◌, Bool, cond, not, ◌&&◌, ◌||◌, List, [], ◌∷◌, ℕ, suc, ◌≤◌, ◌<◌, eqb, length, get_or, set, Option, MatchOption}
 use Rattle.semantics.specs.Numbers.{filter}
 use Rattle.player.specs.declared.claims.Slot.{Slot}
 use Rattle.player.specs.declared.claims.Slots.{Slots}
@@ -18,6 +18,10 @@ slot_at s slot = get_or s.slots slot (record { stamp = 0; node = 0 })
 -- The rank that a slot has in the cycle of a stamp: one more than the node that claimed it, or 0.
 abbrev pub rank_in : Slots → ℕ → ℕ → ℕ
 rank_in s stamp slot = cond (eqb (slot_at s slot).stamp stamp) (suc (slot_at s slot).node) 0
+
+-- The node that claimed a slot in the cycle of a stamp, or none.
+abbrev pub IsClaimant : Slots → ℕ → ℕ → Option ℕ → Type 0
+IsClaimant s stamp slot = λ r. MatchOption r (rank_in s stamp slot ≡ 0) (λ node. rank_in s stamp slot ≡ suc node)
 
 -- No slot has a stamp above n.
 pub record UpTo (s : Slots) (n : ℕ) : Type 0 where

@@ -1,10 +1,11 @@
 -- The stores of a cycle in code: what is claimed and worked before any is made.
 use Rattle.std.specs.Prelude.{◌≡◌, Bool, true, false, cond, ℕ, zero, suc, ◌≤◌, ◌<◌, length, get_or, set, take, drop}
 use mathlib.Core.List.{List, foldl}
+use Rattle.std.proofs.Math.Option.{some}
 use Rattle.semantics.specs.Program.{Program, a_at, b_at}
 use Rattle.semantics.specs.Widths.{truncated}
 use Rattle.semantics.specs.Expressions.{expr_values}
-use Rattle.semantics.specs.Completion.{is_asg, stores, targets_apart, store}
+use Rattle.semantics.specs.Completion.{is_asg, stores, source, targets_apart, store}
 use Rattle.semantics.specs.Cycle.{new_values}
 use Rattle.player.specs.declared.claims.Claims.{Claims as CodeClaims}
 use Rattle.player.specs.declared.memo.Memo.{Memo}
@@ -20,6 +21,12 @@ use Rattle.player.specs.Channels.{CycleOf, Paired, has_kind}
 -- The variable of an ASG, and else that of an IN.
 abbrev pub target_at : List ℕ → ℕ → ℕ
 target_at nodes i = cond (has_kind nodes is_asg i) (a_at nodes i) (b_at nodes i)
+
+-- Node i stores to the variable the value of the expression.
+pub record StoresAt (P : Program) (marks : List ℕ) (i variable expression : ℕ) : Type 0 where
+  pub storing : stores P marks i ≡ true
+  pub place : variable ≡ target_at P.nodes i
+  pub right_side : source P marks i ≡ some expression
 
 -- A cycle from these values whose channels are paired, and in which no variable is claimed yet.
 pub record Storing (P : Program) (entries values : List ℕ) (memo : Memo) (claims : CodeClaims) : Type 0 where

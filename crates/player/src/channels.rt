@@ -1,9 +1,9 @@
 // Channels: question 8, whether a channel has two marked IN or two marked OUT, and which leaves wait.
-ghost use Rattle.std.specs.Prelude.{◌≡◌, true, not, ◌<◌, eqb, length};
+ghost use Rattle.std.specs.Prelude.{◌≡◌, ◌<◌, length};
 ghost use Rattle.semantics.specs.Program.{node_count, a_at};
 ghost use Rattle.semantics.specs.Completion.{waits};
 ghost use Rattle.program.specs.Accepted.{accepted_in};
-ghost use Rattle.player.specs.Claims.{Fresh, rank_in, slot_at};
+ghost use Rattle.player.specs.Claims.{Fresh};
 ghost use Rattle.player.specs.Channels.{PairedEntry, EntryPairing, CrossedTo};
 
 use crate::claims::Claims;
@@ -11,34 +11,11 @@ use crate::{entries, records};
 use program::{Accepted, ChanId, Kind, Leaf};
 
 // The channel of an IN or OUT.
-pub fn channel_of(program: &Accepted, i: u16) -> ChanId
+fn channel_of(program: &Accepted, i: u16) -> ChanId
     requires { i < node_count (accepted_in program.now).nodes }
     ensures { result.0 ≡ a_at (accepted_in program.now).nodes i }
 {
     ChanId(records::node(program, i).a)
-}
-
-// Whether an IN, or an OUT, is marked on the channel.
-fn has_in(claims: &Claims, channel: ChanId) -> bool
-    requires { channel.0 < 256 }
-    ensures { result ≡ not (eqb (rank_in claims.now.inputs claims.now.stamp channel.0) 0) }
-{
-    claims.inputs.is_claimed(claims.stamp, channel.0)
-}
-
-pub fn has_out(claims: &Claims, channel: ChanId) -> bool
-    requires { channel.0 < 256 }
-    ensures { result ≡ not (eqb (rank_in claims.now.outputs claims.now.stamp channel.0) 0) }
-{
-    claims.outputs.is_claimed(claims.stamp, channel.0)
-}
-
-// The OUT that is marked on a channel that has one.
-pub fn sender(claims: &Claims, channel: ChanId) -> u16
-    requires { channel.0 < 256 }
-    ensures { result ≡ (slot_at claims.now.outputs channel.0).node }
-{
-    claims.outputs.claimant(channel.0)
 }
 
 // Node i claims its channel, for input if it is an IN and for output if it is an OUT: whether it was free.
@@ -86,8 +63,8 @@ pub fn waits(program: &Accepted, claims: &Claims, i: u16) -> bool
     ensures { (x : PairedEntry (accepted_in program.now) claims.now i) → result ≡ waits (accepted_in program.now) x.cycle.marks i }
 {
     match records::kind(program, i) {
-        Kind::Leaf(Leaf::In) => !has_out(claims, channel_of(program, i)),
-        Kind::Leaf(Leaf::Out) => !has_in(claims, channel_of(program, i)),
+        Kind::Leaf(Leaf::In) => claims.sender(channel_of(program, i)).is_none(),
+        Kind::Leaf(Leaf::Out) => claims.receiver(channel_of(program, i)).is_none(),
         _ => false,
     }
 }

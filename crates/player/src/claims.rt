@@ -1,6 +1,8 @@
 // What a cycle claims: channels and variables, each by one node. A slot is claimed in the cycle whose stamp it has; stamps
 // rise from cycle to cycle, so that no slot is ever cleared.
-ghost use Rattle.std.specs.Prelude.{◌≡◌, not, ◌<◌, eqb};
+ghost use Rattle.std.specs.Prelude.{◌<◌};
+
+use program::ChanId;
 
 // How many slots there are: as many as channels, and as many as variables.
 const SLOTS: usize = 256;
@@ -18,7 +20,7 @@ pub struct Slots {
 }
 
 impl Slots {
-    ghost use Rattle.player.specs.Claims.{Claim, UpTo, rank_in, slot_at};
+    ghost use Rattle.player.specs.Claims.{Claim, IsClaimant, UpTo};
 
     fn new() -> Slots
         ensures { UpTo result 0 }
@@ -41,20 +43,17 @@ impl Slots {
         true
     }
 
-    // Whether the slot is claimed in the cycle of this stamp.
-    pub fn is_claimed(&self, stamp: u16, slot: u16) -> bool
+    // The node that claimed the slot in the cycle of this stamp.
+    fn claimant(&self, stamp: u16, slot: u16) -> Option<u16>
         requires { slot < 256 }
-        ensures { result ≡ not (eqb (rank_in self.now stamp slot) 0) }
+        ensures { IsClaimant self.now stamp slot result }
     {
-        self.slots[slot as usize].stamp == stamp
-    }
-
-    // The node that claimed the slot last.
-    pub fn claimant(&self, slot: u16) -> u16
-        requires { slot < 256 }
-        ensures { result ≡ (slot_at self.now slot).node }
-    {
-        self.slots[slot as usize].node
+        let last = self.slots[slot as usize];
+        if last.stamp == stamp {
+            Some(last.node)
+        } else {
+            None
+        }
     }
 }
 
@@ -69,7 +68,7 @@ pub struct Claims {
 }
 
 impl Claims {
-    ghost use Rattle.player.specs.Claims.{Aged};
+    ghost use Rattle.player.specs.Claims.{Aged, IsClaimant};
 
     pub fn new() -> Claims
         ensures { Aged result 0 }
@@ -80,5 +79,21 @@ impl Claims {
             outputs: Slots::new(),
             writers: Slots::new(),
         }
+    }
+
+    // The IN that claimed the channel.
+    pub fn receiver(&self, channel: ChanId) -> Option<u16>
+        requires { channel.0 < 256 }
+        ensures { IsClaimant self.now.inputs self.now.stamp channel.0 result }
+    {
+        self.inputs.claimant(self.stamp, channel.0)
+    }
+
+    // The OUT that claimed the channel.
+    pub fn sender(&self, channel: ChanId) -> Option<u16>
+        requires { channel.0 < 256 }
+        ensures { IsClaimant self.now.outputs self.now.stamp channel.0 result }
+    {
+        self.outputs.claimant(self.stamp, channel.0)
     }
 }

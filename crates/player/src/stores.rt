@@ -1,19 +1,17 @@
 // Stores: question 9, whether two completing leaves store to one variable, the right sides in the old values, and the
 // stores of a cycle. An IN stores when an OUT is marked on its channel.
-ghost use Rattle.std.specs.Prelude.{◌≡◌, true, not, eqb, ◌<◌, length, get_or, set, ℕ, List};
-ghost use Rattle.std.proofs.Math.Option.{some};
-ghost use Rattle.semantics.specs.Program.{node_count};
-ghost use Rattle.semantics.specs.Completion.{stores, source};
+ghost use Rattle.std.specs.Prelude.{◌≡◌, false, not, eqb, ◌<◌, length, get_or, set, ℕ, List, MatchOption};
+ghost use Rattle.semantics.specs.Completion.{stores};
 ghost use Rattle.program.specs.Accepted.{accepted_in};
 ghost use Rattle.player.specs.Memo.{Holds};
 ghost use Rattle.player.specs.Channels.{PairedEntry};
-ghost use Rattle.player.specs.Stores.{target_at, comes_to, taken_back, HeldFit, Storing, RightSides, Stored};
+ghost use Rattle.player.specs.Stores.{comes_to, taken_back, HeldFit, Storing, StoresAt, RightSides, Stored};
 
 use crate::claims::Claims;
 use crate::work::Work;
-use crate::{channels, expressions, records};
+use crate::{expressions, records};
 use program::limits::NODES_MAX;
-use program::{Accepted, Kind, Leaf, Node, VarId};
+use program::{Accepted, ChanId, Kind, Leaf, Node, VarId};
 
 // A store: its variable and the value for it, and once the store is made, the value before.
 #[derive(Clone, Copy, Debug)]
@@ -43,45 +41,22 @@ impl Stores {
     }
 }
 
-// Whether node i, a marked one, stores: an ASG, or an IN that an OUT is marked for.
-fn does_store(program: &Accepted, claims: &Claims, i: u16) -> bool
+// The variable that node i, a marked one, stores to, and the expression whose value it stores, where it stores: an ASG has
+// both; an IN for which an OUT is marked has the variable, and the OUT the expression.
+fn target_and_source(program: &Accepted, claims: &Claims, i: u16) -> Option<(VarId, u16)>
     requires { PairedEntry (accepted_in program.now) claims.now i }
     ensures { (x : PairedEntry (accepted_in program.now) claims.now i)
-        → result ≡ stores (accepted_in program.now) x.cycle.marks i }
-{
-    match records::kind(program, i) {
-        Kind::Leaf(Leaf::Asg) => true,
-        Kind::Leaf(Leaf::In) => channels::has_out(claims, channels::channel_of(program, i)),
-        _ => false,
-    }
-}
-
-// The variable that an ASG or IN stores to.
-fn target(program: &Accepted, i: u16) -> VarId
-    requires { i < node_count (accepted_in program.now).nodes }
-    ensures { result.0 ≡ target_at (accepted_in program.now).nodes i }
+        → MatchOption result (stores (accepted_in program.now) x.cycle.marks i ≡ false)
+        (λ s. StoresAt (accepted_in program.now) x.cycle.marks i s.0.0 s.1) }
 {
     let Node { a, b, .. } = records::node(program, i);
     match records::kind(program, i) {
-        Kind::Leaf(Leaf::Asg) => VarId(a),
-        _ => VarId(b),
-    }
-}
-
-// The expression whose value node i stores: its own, or that of the OUT marked on its channel.
-fn source(program: &Accepted, claims: &Claims, i: u16) -> u16
-    requires { (x : PairedEntry (accepted_in program.now) claims.now i)
-        × (stores (accepted_in program.now) x.cycle.marks i ≡ true) }
-    ensures { (x : PairedEntry (accepted_in program.now) claims.now i)
-        → stores (accepted_in program.now) x.cycle.marks i ≡ true
-        → source (accepted_in program.now) x.cycle.marks i ≡ some result }
-{
-    match records::kind(program, i) {
-        Kind::Leaf(Leaf::Asg) => records::node(program, i).b,
-        _ => {
-            let sender = channels::sender(claims, channels::channel_of(program, i));
-            records::node(program, sender).b
+        Kind::Leaf(Leaf::Asg) => Some((VarId(a), b)),
+        Kind::Leaf(Leaf::In) => {
+            let sender = claims.sender(ChanId(a))?;
+            Some((VarId(b), records::node(program, sender).b))
         }
+        _ => None,
     }
 }
 
@@ -104,16 +79,11 @@ pub fn work_right_sides(
 {
     let mut count = 0;
     for &i in entries {
-        if does_store(program, claims, i) {
-            let variable = target(program, i);
+        if let Some((variable, source)) = target_and_source(program, claims, i) {
             if !claims.writers.claim(claims.stamp, variable.0, i) {
                 return false;
             }
-            let value = expressions::right_side(
-                program,
-                &mut work.memo,
-                source(program, claims, i),
-            );
+            let value = expressions::right_side(program, &mut work.memo, source);
             stores.list[count] = Store { variable, value };
             count += 1;
         }
