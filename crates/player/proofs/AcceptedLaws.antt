@@ -1,7 +1,8 @@
 -- What an accepted program gives to the code that walks it: the facts of questions 1 to 4 and 11, conditions that are there,
 -- and widths of 1 to 16 bits.
-use Rattle.std.proofs.Common.{◌≡◌, ℕ, ◌<◌, true, true≢false, Ok, Err, refl, sym, ap, ◌∙◌, inl, inr, subst}
-use Rattle.std.specs.Prelude.{Result, IsOk}
+use Rattle.std.proofs.Common.{◌≡◌, ℕ, ◌<◌, true, true≢false, Ok, Err, sym, ap, ◌∙◌, inl, inr, subst}
+use Rattle.std.specs.Prelude.{Result}
+use Rattle.std.specs.Result.{result_unwrap_or}
 use borrow.Author.Tests.{ltb-true}
 use Rattle.semantics.specs.Program.{Program, Kind, expr_count, op_at, node_count, kind_at, a_at, b_at}
 use Rattle.semantics.specs.Program.Kind.{IF, WHL, UNKNOWN as UNKNOWN-KIND}
@@ -40,8 +41,9 @@ module _ (P : Program) (ok : check_number P ≡ 0) where
   op_known i l e =
       true≢false (sym ((accepted P ok).exprs_ok i l) ∙ rw e)
 
--- a word that is read as something known is read as a value
-pub read_ok : {A E R : Type 0} (read : Result A E → R) (unknown : R) → ((e : E) → read (Err e) ≡ unknown)
-    → (r : Result A E) → (read r ≡ unknown → ⊥) → IsOk r
-read_ok read unknown err (Ok _) known = refl
-read_ok read unknown err (Err e) known = absurd (known (err e))
+-- what is known is read as the value that is there, whatever else would stand for none
+pub read_or : {A E R : Type 0} (read : Result A E → R) (reading : A → R) (unknown : R) → ((a : A) → read (Ok a) ≡ reading a)
+    → ((e : E) → read (Err e) ≡ unknown) → (r : Result A E) (other : A) → (read r ≡ unknown → ⊥)
+    → reading (result_unwrap_or r other) ≡ read r
+read_or read reading unknown ok err (Ok a) other known = sym (ok a)
+read_or read reading unknown ok err (Err e) other known = absurd (known (err e))
