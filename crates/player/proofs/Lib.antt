@@ -7,6 +7,7 @@ pub mod KindTurnLaws
 pub mod OutcomeLaws
 pub mod WalkingLaws
 pub mod RunAnswerLaws
+pub mod FirstNoLaws
 pub mod BeginLaws
 pub mod RunningLaws
 pub mod OneResult

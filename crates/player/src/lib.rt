@@ -32,11 +32,10 @@ ghost use Rattle.player.specs.Begin.{state_of, BeginAnswer};
 ghost use Rattle.player.specs.Run.{RunAnswer, number_of_run, item_of_run, worked_by};
 
 use cycles::work_cycles;
-use lengths::lengths_fit;
+use lengths::ask_lengths;
 pub use program::{Program, Refusal, check};
 use root::enter_root;
-use well_formed::well_formed;
-use widths::values_in_range;
+use well_formed::{ask_state, ask_values};
 
 // Begins a program with the values as given: asks what check asks, question 5, question 6 of the values alone, and 10.
 // Where none is answered no, it writes marks and counts whole from entering node 0. What stood in them is not read.
@@ -50,12 +49,8 @@ pub fn begin(
         (number_of result) (item_of result) marks.new counts.new }
 {
     let accepted = check(program)?;
-    if !lengths_fit(&accepted, values, marks, counts) {
-        return Err(Refusal::Lengths);
-    }
-    if !values_in_range(&accepted, values) {
-        return Err(Refusal::State);
-    }
+    ask_lengths(&accepted, values, marks, counts)?;
+    ask_values(&accepted, values)?;
     enter_root(&accepted, values, marks, counts)
 }
 
@@ -88,11 +83,7 @@ pub fn run(
         (number_of_run result) (item_of_run result) (worked_by result) (state_of values.new marks.new counts.new) }
 {
     let accepted = check(program)?;
-    if !lengths_fit(&accepted, values, marks, counts) {
-        return Err(Refusal::Lengths.into());
-    }
-    if !well_formed(&accepted, values, marks, counts) {
-        return Err(Refusal::State.into());
-    }
+    ask_lengths(&accepted, values, marks, counts)?;
+    ask_state(&accepted, values, marks, counts)?;
     work_cycles(&accepted, values, marks, counts, book, cycles)
 }

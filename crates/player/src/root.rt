@@ -1,8 +1,8 @@
 // Entering node 0 of an accepted program, whatever stood in marks and counts.
-ghost use Rattle.std.specs.Prelude.{◌≡◌, length};
-ghost use Rattle.semantics.specs.Program.{node_count};
+ghost use Rattle.semantics.specs.Facts.{LengthsFit};
 ghost use Rattle.semantics.specs.Calls.{root_walk};
 ghost use Rattle.program.specs.Accepted.{accepted_in};
+ghost use Rattle.player.specs.Begin.{state_of};
 ghost use Rattle.player.specs.Root.{WrittenUnlessLooped};
 
 use crate::work::Work;
@@ -17,9 +17,9 @@ pub fn enter_root(
     marks: &mut [u8],
     counts: &mut [u16],
 ) -> Result<(), Refusal>
-    requires values_len { length values.now ≡ (accepted_in program.now).variables }
-    requires marks_len { (length marks.old ≡ node_count (accepted_in program.now).nodes) × (length counts.old ≡ node_count (accepted_in program.now).nodes) }
-    ensures { WrittenUnlessLooped (root_walk (accepted_in program.now) values.now) marks.old counts.old result marks.new counts.new }
+    requires { LengthsFit (accepted_in program.now) (state_of values.now marks.old counts.old) }
+    ensures { WrittenUnlessLooped (root_walk (accepted_in program.now) values.now) marks.old counts.old
+        result marks.new counts.new }
 {
     let mut work = Work::new();
     start::fill_values(values, &mut work);

@@ -3,16 +3,18 @@
 // their numbers are higher, so they are counted first.
 ghost use Rattle.std.specs.Prelude.{◌≡◌, length};
 ghost use Rattle.semantics.specs.State.{control_formed, well_formed};
-ghost use Rattle.semantics.specs.Facts.{node_well_formed};
+ghost use Rattle.semantics.specs.Widths.{values_in_range};
+ghost use Rattle.semantics.specs.Facts.{LengthsFit, node_well_formed};
 ghost use Rattle.program.specs.Kinds.{rule_kind};
 ghost use Rattle.program.specs.Accepted.{accepted_in};
+ghost use Rattle.program.specs.Answer.{answer_to};
 ghost use Rattle.player.specs.Begin.{state_of};
 ghost use Rattle.player.specs.WellFormed.{ListsFit, added_to_parent, ParentFits};
 
 use crate::records;
 use crate::widths::values_in_range;
 use program::limits::NODES_MAX;
-use program::{Accepted, Kind};
+use program::{Accepted, Kind, Refusal};
 
 // What question 6 asks of one node, of whose children `live` have a marked leaf at or below them.
 #[tactic(auto, unfolding(semantics::specs::Facts::node_well_formed))]
@@ -55,12 +57,33 @@ fn control_formed(program: &Accepted, marks: &[u8], counts: &[u16]) -> bool
     true
 }
 
+// Question 6 of the values alone, which is all that begin asks.
+pub fn ask_values(program: &Accepted, values: &[u16]) -> Result<(), Refusal>
+    requires { length values.now ≡ (accepted_in program.now).variables }
+    ensures { result ≡ answer_to (values_in_range (accepted_in program.now).widths values.now) Refusal.State }
+{
+    if values_in_range(program, values) {
+        Ok(())
+    } else {
+        Err(Refusal::State)
+    }
+}
+
 // Question 6 of a state whose lists fit an accepted program.
 #[tactic(auto, unfolding(semantics::specs::State::well_formed))]
-pub fn well_formed(program: &Accepted, values: &[u16], marks: &[u8], counts: &[u16]) -> bool
-    requires lists_fit { ListsFit (accepted_in program.now) marks.now counts.now }
-    requires values_len { length values.now ≡ (accepted_in program.now).variables }
-    ensures { result ≡ well_formed (accepted_in program.now) (state_of values.now marks.now counts.now) }
+pub fn ask_state(
+    program: &Accepted,
+    values: &[u16],
+    marks: &[u8],
+    counts: &[u16],
+) -> Result<(), Refusal>
+    requires { LengthsFit (accepted_in program.now) (state_of values.now marks.now counts.now) }
+    ensures { result ≡ answer_to
+        (well_formed (accepted_in program.now) (state_of values.now marks.now counts.now)) Refusal.State }
 {
-    values_in_range(program, values) & control_formed(program, marks, counts)
+    if values_in_range(program, values) & control_formed(program, marks, counts) {
+        Ok(())
+    } else {
+        Err(Refusal::State)
+    }
 }

@@ -1,44 +1,36 @@
 -- `begin` asks its questions in the rules' order, each after those before it are answered yes.
-use Rattle.std.proofs.Common.{sym, ◌∙◌}
 use Rattle.semantics.proofs.Order.CycleOrder.{fits_lengths}
-use Rattle.program.specs.Answer.{program_in}
-use Rattle.player.proofs.BeginLaws.{answer_check, answer_5, answer_6, answer_written}
+use Rattle.program.proofs.AnswerLaws.{answer_to-ok}
+use Rattle.player.proofs.FirstNoLaws.{no_check, no_5, no_6}
+use Rattle.player.proofs.BeginLaws.{refused, answer_written}
 use Rattle.player.proofs.begin.Goals as goal
 
 pub returns-in_err-accepted : goal.returns-in_err-accepted
-returns-in_err-accepted c = answer_check _ _ _ _ c.from_residual.ensures c.in_err-accepted.ensures.answer
+returns-in_err-accepted c = refused _ _ _ _ c.from_residual.ensures (no_check _ c.in_err-accepted.ensures.answer)
 
-pub returns-then-not-lengths_fit : goal.returns-then-not-lengths_fit
-returns-then-not-lengths_fit c =
+pub returns-in_err-ask_lengths : goal.returns-in_err-ask_lengths
+returns-in_err-ask_lengths c =
     let it = c.in_ok-accepted in
     rw (← it.ensures.same)
-    (answer_5 (program_in it.accepted.lists) _ (sym it.accepted.accepted)
-    (sym c.lengths_fit.ensures ∙ c.if-not-lengths_fit.true))
+    (refused _ _ _ _ c.from_residual-in_err-ask_lengths.ensures
+    (no_5 it.accepted.accepted _ _ c.in_err-ask_lengths.ensures))
 
-pub values_in_range-requires : goal.values_in_range-requires
-values_in_range-requires c =
-    (fits_lengths _ _ (sym c.lengths_fit.ensures ∙ c.if-not-lengths_fit.false)).values
+pub ask_values-requires : goal.ask_values-requires
+ask_values-requires c = (fits_lengths _ _ (answer_to-ok _ _ c.in_ok-ask_lengths.ensures)).values
 
-pub returns-then-not-values_in_range : goal.returns-then-not-values_in_range
-returns-then-not-values_in_range c =
+pub returns-in_err-ask_values : goal.returns-in_err-ask_values
+returns-in_err-ask_values c =
     let it = c.in_ok-accepted in
     rw (← it.ensures.same)
-    (answer_6 (program_in it.accepted.lists) _ (sym it.accepted.accepted)
-    (sym c.lengths_fit.ensures ∙ c.if-not-lengths_fit.false)
-    (sym c.values_in_range.ensures ∙ c.if-not-values_in_range.true))
+    (refused _ _ _ _ c.from_residual-in_err-ask_values.ensures
+    (no_6 it.accepted.accepted _ _ _ (answer_to-ok _ _ c.in_ok-ask_lengths.ensures) c.in_err-ask_values.ensures))
 
-pub enter_root-requires-clause-values_len : goal.enter_root-requires-clause-values_len
-enter_root-requires-clause-values_len c =
-    (fits_lengths _ _ (sym c.lengths_fit.ensures ∙ c.if-not-lengths_fit.false)).values
-
-pub enter_root-requires-clause-marks_len : goal.enter_root-requires-clause-marks_len
-enter_root-requires-clause-marks_len c =
-    let fit = fits_lengths _ _ (sym c.lengths_fit.ensures ∙ c.if-not-lengths_fit.false) in (fit.marks, fit.counts)
+pub enter_root-requires : goal.enter_root-requires
+enter_root-requires c = fits_lengths _ _ (answer_to-ok _ _ c.in_ok-ask_lengths.ensures)
 
 pub returns : goal.returns
 returns c =
     let it = c.in_ok-accepted in
     rw (← it.ensures.same)
-    (answer_written (program_in it.accepted.lists) _ (sym it.accepted.accepted)
-    (sym c.lengths_fit.ensures ∙ c.if-not-lengths_fit.false)
-    (sym c.values_in_range.ensures ∙ c.if-not-values_in_range.false) c.enter_root.ensures)
+    (answer_written _ _ it.accepted.accepted (answer_to-ok _ _ c.in_ok-ask_lengths.ensures)
+    (answer_to-ok _ _ c.in_ok-ask_values.ensures) c.enter_root.ensures)

@@ -57,24 +57,25 @@ module _ {P : Program} (a : Accepted P) {n : ℕ} (fit : n ≡ node_count P.node
 -- ---- before node 0 is entered
 pub fill_values-requires-clause-values_len : goal.fill_values-requires-clause-values_len
 fill_values-requires-clause-values_len c =
-    omega (arith, c.requires.values_len, (is_accepted c.args.program.now).sizes.variables_fit)
+    omega (arith, c.requires.values, (is_accepted c.args.program.now).sizes.variables_fit)
 
 pub slice_bounds-new_marks-end : goal.slice_bounds-new_marks-end
-slice_bounds-new_marks-end c = inside (is_accepted c.args.program.now) c.requires.marks_len.0
+slice_bounds-new_marks-end c = inside (is_accepted c.args.program.now) c.requires.marks
 
 pub slice_bounds-enter_node-end : goal.slice_bounds-enter_node-end
-slice_bounds-enter_node-end c = front_length (is_accepted c.args.program.now) c.requires.marks_len.0
+slice_bounds-enter_node-end c = front_length (is_accepted c.args.program.now) c.requires.marks
 
 pub slice_bounds-new_counts-end : goal.slice_bounds-new_counts-end
-slice_bounds-new_counts-end c = inside (is_accepted c.args.program.now) c.requires.marks_len.0
+slice_bounds-new_counts-end c = inside (is_accepted c.args.program.now) c.requires.marks
 
 pub slice_bounds-enter_node-end-2 : goal.slice_bounds-enter_node-end-2
-slice_bounds-enter_node-end-2 c = front_length (is_accepted c.args.program.now) c.requires.marks_len.0
+slice_bounds-enter_node-end-2 c = front_length (is_accepted c.args.program.now) c.requires.marks
 
 pub enter_node-requires-clause-walking : goal.enter_node-requires-clause-walking
 enter_node-requires-clause-walking c =
     let filled = c.fill_values.ensures in
-    walking (is_accepted c.args.program.now) c.requires.marks_len.0 c.fill_values.new.work c.new-work.ensures filled.kept (filled.known _)
+    walking (is_accepted c.args.program.now) c.requires.marks c.fill_values.new.work c.new-work.ensures filled.kept
+    (filled.known _)
 
 pub enter_node-requires-clause-i_bound : goal.enter_node-requires-clause-i_bound
 enter_node-requires-clause-i_bound c = (is_accepted c.args.program.now).sizes.some_node
@@ -84,17 +85,18 @@ pub returns-then-work : goal.returns-then-work
 returns-then-work c =
     let filled = c.fill_values.ensures in
     let right =
-    walked (is_accepted c.args.program.now) c.requires.marks_len.0 c.fill_values.new.work c.new-work.ensures filled.kept (filled.known _)
-    c.args.values.now filled.holds c.enter_node.ensures in
+    walked (is_accepted c.args.program.now) c.requires.marks c.fill_values.new.work c.new-work.ensures filled.kept
+    (filled.known _) c.args.values.now filled.holds c.enter_node.ensures in
     nothing_written c.enter_node.new.work right _ _ c.if-work.true
 
 pub returns : goal.returns
 returns c =
     let filled = c.fill_values.ensures in
     let accepted = is_accepted c.args.program.now in
-    let fit = c.requires.marks_len.0 in
+    let fit = c.requires.marks in
     let right =
-    walked accepted fit c.fill_values.new.work c.new-work.ensures filled.kept (filled.known _) c.args.values.now filled.holds c.enter_node.ensures in
+    walked accepted fit c.fill_values.new.work c.new-work.ensures filled.kept (filled.known _) c.args.values.now
+    filled.holds c.enter_node.ensures in
     let entered = c.enter_node in
     let marks = c.copy_from_slice.ensures.after ∙ came_back accepted fit entered.new.marks entered.auto.marks in
     let counts = c.copy_from_slice-2.ensures.after ∙ came_back accepted fit entered.new.counts entered.auto.counts in
