@@ -1,49 +1,62 @@
 -- The child that an IF or a WHL enters, by its condition.
-use Rattle.std.proofs.Common.{◌≡◌, ℕ, suc, ◌≤◌, ◌<◌, true, false, Some, None, ap, ◌∙◌, arith, inl, inr}
-use Rattle.semantics.specs.Program.{Program, node_count, kind_at, end_at, a_at, is_leaf}
+use Rattle.std.proofs.Common.{◌≡◌, ℕ, ◌+◌, ◌≤◌, ◌<◌, true, false, refl, ap, ◌∙◌, add-one, arith, inl, inr}
+use Rattle.semantics.specs.Program.{Program, expr_count, node_count, kind_at, end_at, a_at, is_leaf}
 use Rattle.semantics.specs.Program.Kind.{IF, WHL}
 use Rattle.semantics.specs.Walk.{Walk, enter}
-use Rattle.semantics.specs.Facts.{Accepted, statement_at}
-use Rattle.semantics.proofs.Tree.NodeLaws.{end_fits}
-use Rattle.semantics.proofs.Tree.SiblingLaws.{Sibling, first_sibling}
+use Rattle.semantics.specs.Walk.Entered.{finished}
+use Rattle.semantics.specs.Facts.{NodesOk, statement_at}
+use Rattle.semantics.proofs.Tree.ChildLaws.{some_child}
 use Rattle.semantics.proofs.Walks.EnterLaws.{enter_if_true, enter_if_second, enter_if_missing, enter_whl_false, enter_whl_true}
 use Rattle.player.specs.declared.memo.Memo.{Memo}
-use Rattle.player.specs.Walks.{holds_now, is_whl, passed, Chosen, Branches}
+use Rattle.program.specs.Accepted.{accepted_in}
+use Rattle.program.specs.declared.accepted.Accepted.{Accepted as AcceptedCode}
+use Rattle.player.proofs.AcceptedLaws.{is_accepted, condition_there}
+use Rattle.player.proofs.AcceptedNodeLaws.{node_ends, end_inside}
+use Rattle.player.specs.Walks.{holds_now, is_whl, passed, Branches}
 
-module _ (P : Program) (a : Accepted P) (memo : Memo) (i : ℕ) (l : i < node_count P.nodes) where
-  -- a node that branches has a first child
-  pub first_branch : Branches P.nodes i → Sibling P.nodes i (suc i)
-  first_branch (inl e) = first_sibling P.nodes a.nodes_ok i l (ap is_leaf e)
-  first_branch (inr e) = first_sibling P.nodes a.nodes_ok i l (ap is_leaf e)
+module _ (program : AcceptedCode) where
+  abbrev P : Program
+  P = accepted_in program
 
-  module _ (v : Walk) (h : holds_now P memo (a_at P.nodes i) ≡ true) where
-    -- an IF and a WHL whose condition is true enter it
-    first_entered : Branches P.nodes i
-        → enter (holds_now P memo) (statement_at P.nodes i) v
-        ≡ passed (is_whl (kind_at P.nodes i)) (enter (holds_now P memo) (statement_at P.nodes (suc i)) v)
+  ok : NodesOk P.nodes
+  ok = (is_accepted program).nodes_ok
+
+  -- a node that branches has a first child, and a condition
+  pub first_branch : (i : ℕ) → i < node_count P.nodes → Branches P.nodes i
+      → (kind_at P.nodes i ≡ kind_at P.nodes i) × (i + 1 < end_at P.nodes i) × (i + 1 < node_count P.nodes)
+  first_branch i l b =
+      let first = some_child P.nodes ok i l (branch_no_leaf b) in
+      let fits = end_inside program i l in
+      (refl, omega arith, omega arith)
+    where
+      branch_no_leaf : Branches P.nodes i → is_leaf (kind_at P.nodes i) ≡ false
+      branch_no_leaf (inl e) = ap is_leaf e
+      branch_no_leaf (inr e) = ap is_leaf e
+
+  pub condition_within : (i : ℕ) → i < node_count P.nodes → Branches P.nodes i → a_at P.nodes i < expr_count P.exprs
+  condition_within i l b = condition_there P (is_accepted program) i l b
+
+  -- entering it, by the condition
+  module _ (memo : Memo) (i : ℕ) (w : Walk) (l : i < node_count P.nodes) where
+    pub enter_first : Branches P.nodes i → holds_now P memo (a_at P.nodes i) ≡ true
+        → enter (holds_now P memo) (statement_at P.nodes i) w
+        ≡ passed (is_whl (kind_at P.nodes i)) (enter (holds_now P memo) (statement_at P.nodes (i + 1)) w)
     unfolding passed
-    first_entered (inl e) = enter_if_true P.nodes a.nodes_ok (holds_now P memo) i v l e h ∙ rw e
-    first_entered (inr e) = enter_whl_true P.nodes a.nodes_ok (holds_now P memo) i v l e h ∙ rw e
+    enter_first (inl e) h = rw add-one (enter_if_true P.nodes ok (holds_now P memo) i w l e h ∙ rw e)
+    enter_first (inr e) h = rw add-one (enter_whl_true P.nodes ok (holds_now P memo) i w l e h ∙ rw e)
 
-  pub chosen_first : Branches P.nodes i → holds_now P memo (a_at P.nodes i) ≡ true → Chosen P memo i (Some (suc i))
-  chosen_first b h =
-      let first = first_branch b in
-      (λ v. first_entered v h b, omega arith, first.is_node)
+    module _ (h : holds_now P memo (a_at P.nodes i) ≡ false) where
+      pub enter_second : kind_at P.nodes i ≡ IF → end_at P.nodes (i + 1) < end_at P.nodes i
+          → enter (holds_now P memo) (statement_at P.nodes i) w
+          ≡ passed (is_whl (kind_at P.nodes i)) (enter (holds_now P memo) (statement_at P.nodes (end_at P.nodes (i + 1))) w)
+      unfolding passed
+      enter_second e u = rw (add-one) (enter_if_second P.nodes ok (holds_now P memo) i w l e h (rw add-one at u) ∙ rw e)
 
-  module _ (h : holds_now P memo (a_at P.nodes i) ≡ false) where
-    pub chosen_second : kind_at P.nodes i ≡ IF → end_at P.nodes (suc i) < end_at P.nodes i
-        → Chosen P memo i (Some (end_at P.nodes (suc i)))
-    unfolding passed
-    chosen_second e u =
-        let first = first_branch (inl e) in
-        let fits = end_fits P.nodes a.nodes_ok i l in (
-          λ v. enter_if_second P.nodes a.nodes_ok (holds_now P memo) i v l e h u ∙ rw e,
-          omega (arith, first.later),
-          omega arith,
-        )
+      pub enter_missing : kind_at P.nodes i ≡ IF → end_at P.nodes i ≤ end_at P.nodes (i + 1)
+          → enter (holds_now P memo) (statement_at P.nodes i) w ≡ finished w
+      enter_missing e u = enter_if_missing P.nodes ok (holds_now P memo) i w l e h (rw add-one at u)
 
-    pub chosen_missing : kind_at P.nodes i ≡ IF → end_at P.nodes i ≤ end_at P.nodes (suc i) → Chosen P memo i None
-    chosen_missing e u = λ v. enter_if_missing P.nodes a.nodes_ok (holds_now P memo) i v l e h u
+      pub enter_past : kind_at P.nodes i ≡ WHL → enter (holds_now P memo) (statement_at P.nodes i) w ≡ finished w
+      enter_past e = enter_whl_false P.nodes ok (holds_now P memo) i w l e h
 
-    pub chosen_past : kind_at P.nodes i ≡ WHL → Chosen P memo i None
-    chosen_past e = λ v. enter_whl_false P.nodes a.nodes_ok (holds_now P memo) i v l e h
+pub ruleset branching = (node_ends, first_branch, condition_within, enter_first, enter_second, enter_missing, enter_past)

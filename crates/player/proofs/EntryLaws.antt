@@ -2,7 +2,7 @@
 -- can be crossed out; and marking again what was crossed out gives the marks back.
 use mathlib.Core.Path.{◌≡◌, refl, sym, ap, ◌∙◌, subst}
 use mathlib.Core.Bool.{Bool, true, false, cond, not}
-use mathlib.Core.List.{List, [], ◌∷◌, ◌++◌}
+use mathlib.Core.List.{List, [], ◌∷◌}
 use mathlib.Core.Logic.{inl, inr}
 use Prim.Native.Nat.{ℕ, zero, suc, ◌+◌, ◌≤◌, ◌<◌, zero-le, suc-le-suc}
 use native.Mathlib.Nat.{zero-add, le_of_suc-le-suc, suc_inj}
@@ -10,8 +10,10 @@ use native.Mathlib.Numerals.{add-one}
 use native.Mathlib.Omega.{arith}
 use lib.Dec.{eqb, leb, eqb-zero-suc, eqb-suc-suc}
 use lib.ListN.{length, get_or, set, take, drop, replicate, length-set, drop_of_length-le}
-use lib.Seq.{take-suc, take-add, take-length, take_all, drop-cons, get_or-take, length-take-le}
+use lib.Seq.{take-add, take-length, drop-cons, get_or-take, length-take-le}
 use lib.Seq.{set_comm, set-set, set-get_or}
+use Rattle.std.proofs.lemmas.Grind.{fold-append}
+use Rattle.std.proofs.lemmas.List.Sums.{fold_more}
 use borrow.Author.Tests.{eqb-true, eqb-false, eq-eqb, leb-true, not-true}
 use Rattle.semantics.specs.Numbers.{every}
 use Rattle.semantics.specs.State.{marked, mark_count, marks_are_bits}
@@ -22,11 +24,6 @@ use Rattle.semantics.proofs.Run.CrossOut.{cross_out, mark_count-cross, no_mark_c
 use Rattle.player.specs.Entries.{crossable, set_all, CrossedOut}
 
 -- ---- one word at every entry
-
-set_all-last : (word : ℕ) (marks es : List ℕ) (e : ℕ)
-    → set_all word marks (es ++ (e ∷ [])) ≡ set (set_all word marks es) e word
-set_all-last word marks [] e = refl
-set_all-last word marks (x ∷ es) e = set_all-last word (set marks x word) es e
 
 -- the same word at two places, in either order
 set-swap : (marks : List ℕ) (i j word : ℕ) → set (set marks i word) j word ≡ set (set marks j word) i word
@@ -42,43 +39,11 @@ set_all-set word marks [] e = refl
 set_all-set word marks (x ∷ es) e =
     ap (λ (m : List ℕ). set_all word m es) (set-swap marks e x word) ∙ set_all-set word (set marks x word) es e
 
--- the first k entries have the word
-pub record SetUpTo (word : ℕ) (start entries : List ℕ) (k : ℕ) (marks : List ℕ) : Type 0 where
-  pub within : k ≤ length entries
-  pub same_length : length marks ≡ length start
-  pub right : marks ≡ set_all word start (take k entries)
-
-pub set-none : {word : ℕ} {start entries : List ℕ} → SetUpTo word start entries 0 start
-set-none = record { within = zero-le; same_length = refl; right = refl }
-
-pub set-one : {word : ℕ} {start entries : List ℕ} {k : ℕ} {marks : List ℕ} → SetUpTo word start entries k marks
-    → k < length entries → SetUpTo word start entries (k + 1) (set marks (get_or entries k 0) word)
-set-one {word} {start} {entries} {k} {marks} s l =
-    record {
-      within = omega arith;
-      same_length = length-set marks (get_or entries k 0) word ∙ s.same_length;
-      right =
-          ap (λ (m : List ℕ). set m (get_or entries k 0) word) s.right
-          ∙ sym (set_all-last word start (take k entries) (get_or entries k 0))
-          ∙ ap (λ (es : List ℕ). set_all word start es) (sym (take-suc entries k 0 l))
-          ∙ ap (λ (n : ℕ). set_all word start (take n entries)) (sym (add-one k));
-    }
-
-pub set-whole : {word : ℕ} {start entries : List ℕ} {k : ℕ} {marks : List ℕ} → SetUpTo word start entries k marks
-    → length entries ≤ k → marks ≡ set_all word start entries
-set-whole {word} {start} {entries} {k} s l =
-    s.right ∙ ap (λ (es : List ℕ). set_all word start es) (take_all k entries l)
-
 -- the next entries have the word too
-set_all-append : (word : ℕ) (marks es fs : List ℕ)
-    → set_all word marks (es ++ fs) ≡ set_all word (set_all word marks es) fs
-set_all-append word marks [] fs = refl
-set_all-append word marks (e ∷ es) fs = set_all-append word (set marks e word) es fs
-
 pub set_all-more : (word : ℕ) (marks es : List ℕ) (a b : ℕ)
     → set_all word (set_all word marks (take a es)) (take b (drop a es)) ≡ set_all word marks (take (a + b) es)
 set_all-more word marks es a b =
-    sym (ap (set_all word marks) (take-add a b es) ∙ set_all-append word marks (take a es) (take b (drop a es)))
+    sym (ap (set_all word marks) (take-add a b es) ∙ fold-append (λ m e. set m e word) marks (take a es) (take b (drop a es)))
 
 -- ---- how many entries can be crossed out
 
@@ -167,9 +132,13 @@ module _ {entries start : List ℕ} {k : ℕ} {marks : List ℕ} (h : CrossedOut
         record {
           within = omega arith;
           same_length = length-set marks (get_or entries k 0) 0 ∙ h.same_length;
-          right = (set-one (record { within = h.within; same_length = h.same_length; right = h.right }) l).right;
+          right = ap (λ (m : List ℕ). set m (get_or entries k 0) 0) h.right
+              ∙ sym (fold_more (λ m e. set m e 0) start entries k 0 l);
           rest = omega (arith, h.rest, more);
         }
+
+-- what `cross_out` goes by
+pub ruleset crossing_out = (crossed-all, crossed_most, crossed_next)
 
 -- ---- crossed out and marked again
 

@@ -35,3 +35,4 @@ pub mod HeldLaws
 pub mod StoredLaws
 pub mod SideLaws
 pub mod RightSideLaws
+pub mod AcceptedNodeLaws

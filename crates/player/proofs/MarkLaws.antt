@@ -1,7 +1,6 @@
 -- The number of marks, and when a node is marked.
-use Rattle.std.proofs.Common.{◌≡◌, ℕ, zero, suc, ◌<◌, ◌≤◌, Bool, true, false, cond, eqb, List, [], ◌∷◌, length, get_or, set, refl, sym, ap, ◌∙◌, arith}
+use Rattle.std.proofs.Common.{◌≡◌, ◌≢◌, ne_eqb, ℕ, zero, suc, ◌<◌, ◌≤◌, Bool, true, false, cond, eqb, List, [], ◌∷◌, length, get_or, set, refl, sym, ap, ◌∙◌, arith}
 use native.Mathlib.Nat.{le_of_suc-le-suc}
-use lib.Seq.{set-get_or}
 use Rattle.std.specs.List.{filter}
 use Rattle.semantics.specs.Numbers.{up_from, filter as rule_filter}
 use Rattle.semantics.specs.State.{marked, mark_count}
@@ -12,10 +11,11 @@ pub mark_count-most : (marks : List ℕ) → mark_count marks ≤ length marks
 mark_count-most marks = count_most (marked marks) (length marks) 0
 
 -- one mark more
-pub mark_count-mark : (marks : List ℕ) (i : ℕ) → i < length marks → marked marks i ≡ false
+pub mark_count-mark : (marks : List ℕ) (i : ℕ) → i < length marks → get_or marks i 0 ≢ 1
     → mark_count (set marks i 1) ≡ suc (mark_count marks)
 mark_count-mark [] i l h = absurd (omega arith)
-mark_count-mark (m ∷ ms) zero l h = mark_count-cons 1 ms ∙ ap suc (sym (mark_count-cons m ms ∙ rw h))
+mark_count-mark (m ∷ ms) zero l h =
+    mark_count-cons 1 ms ∙ ap suc (sym (mark_count-cons m ms ∙ rw (ne_eqb m 1 h)))
 mark_count-mark (m ∷ ms) (suc i) l h =
     mark_count-cons m (set ms i 1) ∙ pick (eqb m 1) (mark_count-mark ms i (le_of_suc-le-suc l) h)
     ∙ ap suc (sym (mark_count-cons m ms))
@@ -24,9 +24,8 @@ mark_count-mark (m ∷ ms) (suc i) l h =
     pick true e = ap suc e
     pick false e = e
 
--- a node that is marked already
-pub marked_twice : (marks : List ℕ) (i : ℕ) → get_or marks i 0 ≡ 1 → set marks i 1 ≡ marks
-marked_twice marks i h = ap (λ (m : ℕ). set marks i m) (sym h) ∙ set-get_or marks i 0
+-- what `mark` needs
+pub ruleset marking = (mark_count-most, mark_count-mark)
 
 -- counted by their values
 pub mark_count-filter : (marks : List ℕ) → length (filter (λ m. eqb m 1) marks) ≡ mark_count marks

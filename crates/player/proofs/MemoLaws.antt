@@ -1,17 +1,13 @@
 -- What is known of the values of expressions: in equal values of the variables they are equal, and what a note, a pass or a new
 -- moment leaves known.
-use Rattle.std.proofs.Common.{◌≡◌, ◌≢◌, ℕ, zero, suc, ◌+◌, ◌<◌, ◌≤◌, Bool, true, false, not, cond, eqb, List, [], ◌∷◌, ◌++◌, Some, None, length, get_or, set, refl, sym, ap, ◌∙◌, subst, inl, inr, arith, length-set, get_or-set_other, ◌-◌, replicate, rules}
-use Rattle.std.proofs.lemmas.List.{places, length-replicate}
-use borrow.Rule.Slice.PartMut.{put_mid, mid_of}
-use mathlib.Core.Logic.{◌⊎◌}
+use Rattle.std.proofs.Common.{◌≡◌, ◌≢◌, ℕ, zero, suc, ◌+◌, ◌<◌, ◌≤◌, Bool, true, false, not, cond, eqb, List, [], ◌∷◌, ◌++◌, length, get_or, set, refl, sym, ap, ◌∙◌, subst, arith, length-set, get_or-set_other}
 use borrow.Author.Tests.{eqb-true}
 use Rattle.semantics.specs.Program.{Program, Op, op_at, p_at, q_at, expr_count}
 use Rattle.semantics.specs.Program.Op.{NUMBER, VARIABLE, BINARY, UNKNOWN}
 use Rattle.semantics.specs.Expressions.{value_of as rule_value, first_values, expr_values, is_true}
-use Rattle.semantics.proofs.Lists.Logic.{lt_or_le}
 use Rattle.semantics.proofs.Lists.ListLaws.{set_reads}
 use Rattle.player.specs.declared.memo.Memo.{Memo}
-use Rattle.player.specs.Memo.{Known, Unworked, Handed, HasOperands, Holds, Worked, WorkedNow, WorkedTo, worked_at, noted, value_of}
+use Rattle.player.specs.Memo.{Known, Unworked, Holds, Worked, WorkedNow, WorkedTo, noted, value_of}
 use Rattle.player.specs.Walks.{holds_now}
 
 -- ---- values of the variables that are read alike
@@ -46,24 +42,7 @@ pub same_conditions : (P : Program) (values : List ℕ) (memo : Memo) → Holds 
 same_conditions P values memo holds =
     ap {B = ℕ → Bool} (λ table e. not (eqb (get_or table e 0) 0)) (same_values P.exprs values memo holds)
 
--- ---- an expression looked up
-
-pub worked_handed : (exprs : List ℕ) (memo : Memo) (e : ℕ) → Known exprs memo → e < 1024 → HasOperands exprs e
-    → Handed exprs memo.variables e (worked_at memo e)
-worked_handed exprs memo e k l two = pick (eqb (get_or memo.moments e 0) memo.present) refl
-  where
-    pick : (b : Bool) → eqb (get_or memo.moments e 0) memo.present ≡ b
-        → Handed exprs memo.variables e (cond b (Some (get_or memo.formulas e 0)) None)
-    pick true h = k.right e l (eqb-true _ _ h)
-    pick false h = two
-
 -- ---- an expression worked
-
--- with nothing written
-pub worked_at_once : (exprs : List ℕ) (memo : Memo) (e value : ℕ) → Known exprs memo
-    → value ≡ value_of exprs memo.variables e → Worked exprs memo memo e value
-worked_at_once exprs memo e value k right =
-    record { right = right; known = k; same = record { variables = refl; present = refl } }
 
 module _ (exprs : List ℕ) (memo : Memo) (e value : ℕ) (l : e < 1024) (k : Known exprs memo)
     (right : value ≡ value_of exprs memo.variables e) where
@@ -138,58 +117,16 @@ module _ (exprs : List ℕ) (memo : Memo) (i last : ℕ) where
         }
 
     -- the value of one before i, read back or not
-    pub value_before : (prev p x : ℕ) → p < i → (0 < i → suc prev ≡ i)
-        → x ≡ cond (eqb p prev) last (get_or memo.formulas p 0) → x ≡ value_of exprs memo.variables p
-    value_before prev p x l at = pick (eqb p prev) refl
+    pub value_before : (prev p : ℕ) → p < i → (0 < i → suc prev ≡ i)
+        → cond (eqb p prev) last (get_or memo.formulas p 0) ≡ value_of exprs memo.variables p
+    value_before prev p l at = pick (eqb p prev) refl
       where
-        pick : (b : Bool) → eqb p prev ≡ b → x ≡ cond b last (get_or memo.formulas p 0)
-            → x ≡ value_of exprs memo.variables p
-        pick true t h =
+        pick : (b : Bool) → eqb p prev ≡ b → cond b last (get_or memo.formulas p 0) ≡ value_of exprs memo.variables p
+        pick true t =
             let d = eqb-true p prev t in
             let here = at (omega arith) in
-            h ∙ w.right p (omega arith)
-        pick false t h = h ∙ w.stand p l
-
-    -- and noted
-    pub known_all : (moments : List ℕ) → length moments ≡ 1024
-        → ((e : ℕ) → e < 1024 → (get_or moments e 0 ≡ get_or memo.moments e 0) ⊎ ((e < i) × (get_or moments e 0 ≡ memo.present)))
-        → Known exprs (record memo { moments = moments })
-    known_all moments size either =
-        let known = w.known in
-        record {
-          size = record {
-            variables = known.size.variables;
-            formulas = known.size.formulas;
-            moments = size;
-          };
-          right = λ e u h. elim (either e u) [
-            | inl s ↦ known.right e u (sym s ∙ h)
-            | inr s ↦ w.stand e s.0
-          ];
-          past = λ e u. elim (either e u) [
-            | inl s ↦ let p = known.past e u in omega arith
-            | inr s ↦ let p = s.1 in omega arith
-          ];
-        }
-
--- the moments of those from one up to e are written at once
-pub known_filled : (exprs : List ℕ) (memo : Memo) (e last : ℕ) → WorkedTo exprs memo (e + 1) last → (from : ℕ) (ys : List ℕ)
-    → from ≤ e → e < 1024 → ys ≡ replicate (length (mid_of from (e + 1 - from) memo.moments)) memo.present
-    → Known exprs (record memo { moments = put_mid from (e + 1 - from) memo.moments ys })
-known_filled exprs memo e last w from ys low high eq =
-    let moments = memo.moments in
-    let size = w.known.size.moments in
-    let part : length (mid_of from (e + 1 - from) moments) ≡ e + 1 - from = search (rules, places) in
-    let many : length ys ≡ e + 1 - from =
-    ap (λ (l : List ℕ). length l) eq ∙ length-replicate (length (mid_of from (e + 1 - from) moments)) memo.present
-    ∙ part in
-    known_all exprs memo (e + 1) last w (put_mid from (e + 1 - from) moments ys) (search (rules, places)) (λ k u. elim (lt_or_le k from) [
-      | inl v ↦ inl (search (rules, places))
-      | inr v ↦ elim (lt_or_le k (e + 1)) [
-        | inl t ↦ inr (t, search (rules, places))
-        | inr t ↦ inl (search (rules, places))
-      ]
-    ])
+            w.right p (omega arith)
+        pick false t = w.stand p l
 
 -- ---- moments
 

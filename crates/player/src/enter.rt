@@ -13,6 +13,7 @@ use crate::{expressions, marks, records, threads};
 use program::{Accepted, Kind};
 
 // Whether the condition of node i is true in the values of the moment.
+#[tactic(auto, using(crate::proofs::ChosenLaws::condition_within))]
 pub fn holds(program: &Accepted, memo: &mut Memo, i: u16) -> bool
     requires i_bound { (i < node_count (accepted_in program.now).nodes) × Branches (accepted_in program.now).nodes i }
     requires known { Known (accepted_in program.now).exprs memo.old }
@@ -34,6 +35,7 @@ pub fn pass(work: &mut Work, looping: bool, outcome: Outcome) -> Outcome
 }
 
 // The child that node i, an IF or a WHL, enters, if it enters one.
+#[tactic(auto, using(crate::proofs::ChosenLaws::branching))]
 fn chosen(program: &Accepted, memo: &mut Memo, i: u16) -> Option<u16>
     requires i_bound { (i < node_count (accepted_in program.now).nodes) × Branches (accepted_in program.now).nodes i }
     requires known { Known (accepted_in program.now).exprs memo.old }

@@ -21,6 +21,7 @@ pub fn cross(marks: &mut [u8], i: u16)
 
 // Crosses entries out up to the first that has no mark, or none any more. Gives the number of entries before it. It goes on where
 // `pair_entries` stopped; one function for both would ask at each entry whether a channel is to be claimed.
+#[tactic(auto, using(crate::proofs::EntryLaws::crossing_out))]
 pub fn cross_out(marks: &mut [u8], entries: &[u16]) -> usize
     ensures value { result ≡ crossable marks.old entries.now }
     ensures marks_after { marks.new ≡ set_all 0 marks.old (take result entries.now) }

@@ -15,6 +15,7 @@ const NESTED_MAX: u16 = 24;
 
 // The value of expression e, if it is a number or a variable, or is worked already. Neither this nor `plain` is made of the
 // other: each way costs some programs up to a seventh more instructions.
+#[tactic(auto, using(crate::proofs::OperandLaws::expression_laws), unfolding(semantics::specs::Expressions::value_of))]
 fn at_hand(program: &Accepted, memo: &Memo, e: u16) -> Option<u16>
     requires e_bound { e < expr_count (accepted_in program.now).exprs }
     requires known { Known (accepted_in program.now).exprs memo.now }
@@ -29,6 +30,7 @@ fn at_hand(program: &Accepted, memo: &Memo, e: u16) -> Option<u16>
 }
 
 // A number's or a variable's value; of any other expression nothing is read.
+#[tactic(auto, using(crate::proofs::OperandLaws::expression_laws), unfolding(semantics::specs::Expressions::value_of))]
 fn plain(program: &Accepted, memo: &Memo, e: u16) -> Option<u16>
     requires e_bound { e < expr_count (accepted_in program.now).exprs }
     requires known { Known (accepted_in program.now).exprs memo.now }
@@ -44,6 +46,7 @@ fn plain(program: &Accepted, memo: &Memo, e: u16) -> Option<u16>
 
 // The value of expression e, which has two operands, where both are plain: a step on them is as quick as to look whether it
 // was made before, so it is never noted.
+#[tactic(auto, using(crate::proofs::OperandLaws::expression_laws), unfolding(semantics::specs::Expressions::value_of))]
 fn step(program: &Accepted, memo: &Memo, e: u16) -> Option<u16>
     requires e_bound { (e < expr_count (accepted_in program.now).exprs) × HasOperands (accepted_in program.now).exprs e }
     requires known { Known (accepted_in program.now).exprs memo.now }
@@ -85,6 +88,7 @@ pub fn right_side(program: &Accepted, memo: &mut Memo, e: u16) -> u16
 
 // The value of expression e, which has two operands. It is called from several places, so that the compiler keeps it one
 // function: made part of the walks, it would slow them down.
+#[tactic(auto, using(crate::proofs::OperandLaws::exprs_fit))]
 fn compound(program: &Accepted, memo: &mut Memo, e: u16) -> u16
     requires e_bound { (e < expr_count (accepted_in program.now).exprs) × HasOperands (accepted_in program.now).exprs e }
     requires known { Known (accepted_in program.now).exprs memo.old }
@@ -113,6 +117,7 @@ fn operand_value(program: &Accepted, memo: &mut Memo, nested: u16, e: u16) -> u1
 }
 
 // Works expression e, which has two operands.
+#[tactic(auto, using(crate::proofs::OperandLaws::expression_laws), unfolding(semantics::specs::Expressions::value_of))]
 #[cycle(operand_value_worked_value)]
 fn worked_value(program: &Accepted, memo: &mut Memo, nested: u16, e: u16) -> u16
     requires e_bound { (e < expr_count (accepted_in program.now).exprs) × HasOperands (accepted_in program.now).exprs e }

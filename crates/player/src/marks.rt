@@ -14,6 +14,7 @@ pub fn count_marks(marks: &[u8]) -> u16
 }
 
 // Marks node i. A node that has a mark already is not counted again.
+#[tactic(auto, using(crate::proofs::MarkLaws::marking))]
 pub fn mark(work: &mut Work, marks: &mut [u8], i: u16)
     requires { Tallied marks.old work.old × (i < length marks.old) }
     ensures marks_after { marks.new ≡ set marks.old i 1 }

@@ -10,6 +10,7 @@ use program::{Accepted, Expr, Op, VarId, apply_op};
 
 // The value of e, and with it of all expressions before it. The pass starts at the first that is not worked yet, so that
 // several deep formulas in one cycle take one pass together.
+#[tactic(auto, using(crate::proofs::OperandLaws::exprs_fit))]
 pub fn work_up_to(program: &Accepted, memo: &mut Memo, e: u16) -> u16
     requires e_bound { e < expr_count (accepted_in program.now).exprs }
     requires known { Known (accepted_in program.now).exprs memo.old }
@@ -34,6 +35,7 @@ fn first_unworked(memo: &Memo, e: u16) -> u16
 
 // Works the expressions from one up to e, where all before it are worked. Moments are written afterwards, many words at
 // once. With nothing before the first, `prev` is 0, which no operand of the first asks for: an Option would be no plainer.
+#[tactic(auto, using(crate::proofs::OperandLaws::exprs_fit, crate::proofs::MemoLaws::worked_first))]
 fn work_from(program: &Accepted, memo: &mut Memo, from: u16, e: u16) -> u16
     requires e_bound { (e < expr_count (accepted_in program.now).exprs) × (from ≤ e) }
     requires known { Known (accepted_in program.now).exprs memo.old }
@@ -53,6 +55,7 @@ fn work_from(program: &Accepted, memo: &mut Memo, from: u16, e: u16) -> u16
 
 // The value of expression i, where those of all before it stand in `memo`, and `last` is that of `prev`, the one right before
 // it.
+#[tactic(auto, using(crate::proofs::OperandLaws::expression_laws), unfolding(semantics::specs::Expressions::value_of))]
 fn next_value(program: &Accepted, memo: &Memo, i: u16, prev: u16, last: u16) -> u16
     requires i_bound { (i < expr_count (accepted_in program.now).exprs) × (0 < i → suc prev ≡ i) }
     requires worked { WorkedTo (accepted_in program.now).exprs memo.now i last }

@@ -24,6 +24,7 @@ pub fn outcome(counts: &[u16], h: u16) -> Outcome
 
 // The number of children of node h. A child says where the next begins; an iterator of children would be a type with laws of its
 // own for this loop and one in enter.rt, since `enter_but_last` keeps the last child back.
+#[tactic(auto, using(crate::proofs::AcceptedNodeLaws::counting_children))]
 pub fn count_children(program: &Accepted, h: u16) -> u16
     requires { h < node_count (accepted_in program.now).nodes }
     ensures { result ≡ child_count (statements (accepted_in program.now).nodes (suc h) (end_at (accepted_in program.now).nodes h)) }
