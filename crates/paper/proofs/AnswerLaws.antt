@@ -8,11 +8,6 @@ use Rattle.semantics.specs.FileCalls.{Reading, Writing, read_answer, write_answe
 use Rattle.semantics.proofs.Files.FileCallLaws.{reading, writing}
 use Rattle.paper.specs.Read.{ReadAnswer}
 use Rattle.paper.specs.Write.{WriteAnswer}
-use Rattle.std.proofs.Common.{Result, Ok, Err}
-use Rattle.std.specs.Result.{IsErr, IsErrAnd}
-use Rattle.program.specs.declared.refusal.Refusal.{Refusal}
-use Rattle.program.specs.Refusals.{question_number, fault_in}
-use Rattle.program.specs.Answer.{number_of, item_of}
 
 pub by_reading : {file : List ℕ} {lent : Parts} {q i : ℕ} {b : Parts} → read_answer file lent ≡ reading q i b
     → (left : Parts) → left ≡ b → ReadAnswer file lent q i left
@@ -36,9 +31,3 @@ by_writing {q = q} {i = i} e left same =
       right_item = ap (λ (w : Writing). w.item) right;
       right_buffer = ap (λ (w : Writing). w.buffer) right;
     }
-
--- the number and the item of a refusal that is passed on
-pub passed_on : {A : Type 0} (r : Result A Refusal) (refusal : Refusal) → IsErr r × IsErrAnd r (λ x. x ≡ refusal)
-    → (number_of r ≡ question_number refusal) × (item_of r ≡ fault_in refusal)
-passed_on (Ok _) refusal passed = absurd passed.1
-passed_on (Err _) refusal passed = (ap question_number passed.1, ap fault_in passed.1)

@@ -14,11 +14,11 @@ use Rattle.semantics.proofs.Files.BytesLaws.{length-bytes, bytes-append, length-
 -- ---- taking
 
 -- a turn that takes word i of those from `from` on
-pub take-one : (file : List ℕ) (from i : ℕ) (list list₀ : List ℕ) (word : ℕ)
+pub take_one : (file : List ℕ) (from i : ℕ) (list list₀ : List ℕ) (word : ℕ)
     → from + i < length file / 2 → i < length list₀ → list ≡ paste list₀ 0 (drop from (words_of file)) i
     → word ≡ get_or (words_of file) (from + i) 0
     → set list i word ≡ paste list₀ 0 (drop from (words_of file)) (i + 1)
-take-one file from i list list₀ word within room copied right =
+take_one file from i list list₀ word within room copied right =
     let words = drop from (words_of file) in
     let l = length-drop from (words_of file) in
     let n = length-words file in

@@ -1,6 +1,6 @@
 -- From what the code of write has found and put to the rules' answer, once the program is accepted and there is a value
 -- for each variable.
-use mathlib.Core.Path.{◌≡◌, ap, ◌∙◌}
+use mathlib.Core.Path.{◌≡◌, sym, ap, ◌∙◌}
 use mathlib.Core.List.{List, ◌++◌}
 use Prim.Native.Nat.{ℕ, ◌+◌, ◌*◌, ◌≤◌, ◌<◌}
 use native.Mathlib.Omega.{arith}
@@ -14,9 +14,21 @@ use Rattle.semantics.specs.File.{sizes_of, trailer, file_of}
 use Rattle.semantics.specs.FileCalls.{filled}
 use Rattle.semantics.proofs.Files.FileLaws.{length-four, length-of_file}
 use Rattle.semantics.proofs.Files.FileCallLaws.{write_13, write_0}
+use Rattle.semantics.proofs.Lists.QuestionLaws.{accepted}
+use Rattle.program.specs.Answer.{program_of}
 use Rattle.paper.specs.Write.{WriteAnswer}
 use Rattle.paper.proofs.AnswerLaws.{by_writing}
 use Rattle.paper.proofs.WordLaws.{put_next}
+
+-- with a value for each variable, the parts of an accepted program are short
+pub short : (exprs nodes widths values : List ℕ) (vars chans : ℕ)
+    → 0 ≡ check_number (program_of exprs nodes widths vars chans) → length values ≡ vars
+    → length exprs + length nodes + length values + length widths ≤ 8704
+short exprs nodes widths values vars chans ok as_many =
+    let facts = accepted (program_of exprs nodes widths vars chans) (sym ok) in
+    let s = facts.sizes in
+    let w = facts.widths_fit in
+    omega arith
 
 module _ (P : Program) (values lent : List ℕ) (accepted : 0 ≡ check_number P)
     (as_many : length values ≡ P.variables) where

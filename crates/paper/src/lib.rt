@@ -23,6 +23,7 @@ use words::put_words;
 use writer::{put_parts, trailer_of};
 
 // The sizes of the paper in a file, for making buffers, if the bytes are a file.
+#[tactic(auto, using(crate::proofs::ReaderLaws::given_answer))]
 pub fn sizes(file: &[u8]) -> Option<FileSizes>
     ensures answer { SizesAnswer file.now (given result).nodes (given result).exprs (given result).vars
         (given result).chans }
@@ -56,6 +57,7 @@ pub fn read(
 
 // Writes a paper: asks what check asks, 5 of the values, and 13. Where none is answered no, the start of the buffer is
 // written; what stood after it is kept.
+#[tactic(auto, using(crate::proofs::WriterLaws::short))]
 pub fn write(program: Program, values: &[u16], file: &mut [u8]) -> Result<(), Refusal>
     ensures { WriteAnswer (program_in program.entry) values.now file.old
         (number_of result) (item_of result) file.new }

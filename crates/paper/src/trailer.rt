@@ -1,6 +1,6 @@
 // The trailer of a file: sizes, then the distances of the parts back from it. Question 12 is asked here.
 ghost use Rattle.std.specs.Prelude.{◌≡◌, ◌≤◌, ◌<◌, length, get_or, true, false, MatchOption};
-ghost use Rattle.semantics.specs.File.{trailer_in, sizes_in, exprs_back, nodes_back, values_back, widths_back, file_ok};
+ghost use Rattle.semantics.specs.File.{trailer_in, sizes_in, exprs_back, nodes_back, values_back, widths_back, distances_ok, file_ok};
 ghost use Rattle.paper.specs.Sizes.{sizes_in_code};
 
 use super::lengths::{FileSizes, Lengths};
@@ -54,7 +54,20 @@ fn sizes_in(file: &[u8]) -> FileSizes
     }
 }
 
+// The distances that a trailer has are those that the sizes require.
+fn distances_ok(file: &[u8], sizes: FileSizes) -> bool
+    requires { 16 ≤ length file.now }
+    ensures { result ≡ distances_ok (sizes_in_code sizes) (trailer_in file.now) }
+{
+    let back = distances_of(sizes);
+    (trailer_word(file, 4) as usize == back.exprs)
+        & (trailer_word(file, 5) as usize == back.nodes)
+        & (trailer_word(file, 6) as usize == back.values)
+        & (trailer_word(file, 7) as usize == back.widths)
+}
+
 // Question 12: the sizes of a file, if the bytes are one.
+#[tactic(auto, unfolding(semantics::specs::File::file_ok))]
 pub fn sizes_of_file(file: &[u8]) -> Option<FileSizes>
     ensures { MatchOption result (file_ok file.now ≡ false)
         (λ sizes. (file_ok file.now ≡ true) × (sizes_in_code sizes ≡ sizes_in file.now)) }
@@ -63,12 +76,8 @@ pub fn sizes_of_file(file: &[u8]) -> Option<FileSizes>
         return None;
     }
     let sizes = sizes_in(file);
-    let back = distances_of(sizes);
     let ok = (file.len() % 2 == 0)
-        & (trailer_word(file, 4) as usize == back.exprs)
-        & (trailer_word(file, 5) as usize == back.nodes)
-        & (trailer_word(file, 6) as usize == back.values)
-        & (trailer_word(file, 7) as usize == back.widths)
-        & (file.len() == 2 * back.exprs + 16);
+        & distances_ok(file, sizes)
+        & (file.len() == 2 * distances_of(sizes).exprs + 16);
     if ok { Some(sizes) } else { None }
 }

@@ -5,6 +5,7 @@ ghost use Rattle.std.proofs.lemmas.List.Edits.{sets};
 ghost use Rattle.semantics.specs.Bytes.{bytes_of, words_of};
 
 // Word k of a file.
+#[tactic(auto, using(semantics::proofs::Files::BytesLaws::word_at))]
 pub fn word_in(file: &[u8], k: usize) -> u16
     requires { 2 * k + 1 < length file.now }
     ensures { result ≡ get_or (words_of file.now) k 0 }
@@ -13,6 +14,7 @@ pub fn word_in(file: &[u8], k: usize) -> u16
 }
 
 // Fills the first `count` elements of a list with the words of a file from word `from` on.
+#[tactic(auto, using(crate::proofs::WordLaws::take_one))]
 pub fn take_words(file: &[u8], from: usize, count: usize, list: &mut [u16])
     requires { (2 * (from + count) ≤ length file.now) × (count ≤ length list.old) }
     ensures { list.new ≡ paste list.old 0 (drop from (words_of file.now)) count }
@@ -23,6 +25,7 @@ pub fn take_words(file: &[u8], from: usize, count: usize, list: &mut [u16])
 }
 
 // Puts a word at two bytes of a file.
+#[tactic(auto, unfolding(semantics::specs::Bytes::bytes_of))]
 fn put_word(word: u16, file: &mut [u8], at: usize)
     requires { at + 1 < length file.old }
     ensures { file.new ≡ sets file.old at (bytes_of (word ∷ [])) }
@@ -33,6 +36,7 @@ fn put_word(word: u16, file: &mut [u8], at: usize)
 }
 
 // Puts words into a file from byte `at` on.
+#[tactic(auto, using(crate::proofs::WordLaws::put_one))]
 pub fn put_words(words: &[u16], file: &mut [u8], at: usize)
     requires { at + 2 * length words.now ≤ length file.old }
     ensures { file.new

@@ -1,6 +1,6 @@
 -- Laws of an answer: the item that check gives is that of its number, no refusal has the number 0, the word for C is made of
 -- number and item, and the answer to a question tells whether it is answered yes.
-use Rattle.std.proofs.Common.{◌≡◌, ℕ, ◌+◌, ◌*◌, ◌<◌, Bool, true, false, Ok, Err, refl, sym, ap, ◌∙◌, arith}
+use Rattle.std.proofs.Common.{◌≡◌, ℕ, ◌+◌, ◌*◌, ◌<◌, Bool, true, false, eqb, Ok, Err, refl, sym, ap, ◌∙◌, ne_eqb, arith}
 use Rattle.semantics.specs.Program.{Program}
 use Rattle.semantics.specs.Check.{fault_item}
 use Rattle.program.specs.declared.refusal.Refusal.{Refusal}
@@ -31,6 +31,9 @@ some_number Loop = omega arith
 some_number (Width v) = omega arith
 some_number File = omega arith
 some_number Room = omega arith
+
+pub number_not_0 : (refusal : Refusal) → eqb (question_number refusal) 0 ≡ false
+number_not_0 refusal = let some = some_number refusal in ne_eqb (question_number refusal) 0 (λ e. omega arith)
 
 -- ---- the answer to a question
 

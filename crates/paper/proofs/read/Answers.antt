@@ -1,8 +1,8 @@
 -- `read` asks question 12, what check asks, and 13, and then fills the buffers.
-use Rattle.std.proofs.Common.{refl, ne_eqb, arith}
+use Rattle.std.proofs.Common.{refl}
 use Rattle.std.proofs.lemmas.Result.{err_from_is_err_and}
 use Rattle.semantics.proofs.Files.FileCallLaws.{read_12, read_check, read_13, read_0}
-use Rattle.program.proofs.AnswerLaws.{check_item_lem, some_number, answer_to-ok, answer_to-err}
+use Rattle.program.proofs.AnswerLaws.{check_item_lem, number_not_0, answer_to-ok, answer_to-err}
 use Rattle.paper.proofs.AnswerLaws.{by_reading}
 use Rattle.paper.proofs.read.Goals as goal
 
@@ -16,7 +16,7 @@ returns-in_err-check_in c =
     let (_, is, same) = err_from_is_err_and c.from_residual.result c.from_residual.ensures.1 in
     rw (is, same)
     (by_reading (read_check _ _ c.in-Some.ensures.0 _ _ checked.right_number
-    (ne_eqb _ _ (λ e. let some = some_number c.in_err-check_in.field-0.0 in absurd (omega arith)))
+    (number_not_0 c.in_err-check_in.field-0.0)
     (check_item_lem checked)) _ refl)
 
 -- ---- the buffers are asked about: check has accepted the program
@@ -26,11 +26,6 @@ returns-in_err-ask_room c =
     let (short, room) = answer_to-err _ _ (c.in_err-ask_room.ensures _ ok right) in
     let (_, is, same) = err_from_is_err_and c.from_residual-in_err-ask_room.result c.from_residual-in_err-ask_room.ensures.1 in
     rw (is, same, room) (by_reading (read_13 _ _ ok c.in_ok-check_in.ensures.right_number short) _ refl)
-
--- ---- the buffers are long enough
-pub fill_all-requires-clause-fit : goal.fill_all-requires-clause-fit
-fill_all-requires-clause-fit c =
-    let (ok, right) = c.in-Some.ensures in answer_to-ok _ _ (c.in_ok-ask_room.ensures _ ok right)
 
 pub returns : goal.returns
 returns c =

@@ -1,34 +1,16 @@
 -- `write` asks what check asks, 5 of the values and 13, and then puts the parts and the trailer.
-use Rattle.std.proofs.Common.{◌≡◌, ℕ, ◌+◌, ◌≤◌, List, length, refl, sym, ap, ◌∙◌, ne_eqb, arith}
+use Rattle.std.proofs.Common.{◌≡◌, refl, ap, ◌∙◌, ne_eqb, arith}
 use Rattle.std.proofs.lemmas.Result.{err_from_is_err_and}
-use Rattle.semantics.specs.Program.{Program}
-use Rattle.semantics.specs.Check.{check_number}
 use Rattle.semantics.specs.File.{exprs_back, sizes_of, trailer}
 use Rattle.semantics.proofs.Lists.QuestionLaws.{accepted}
 use Rattle.semantics.proofs.Files.FileCallLaws.{write_check, write_5}
 use Rattle.program.specs.declared.Program.{Program as Lent}
 use Rattle.program.specs.Answer.{program_in}
-use Rattle.program.proofs.AnswerLaws.{check_item_lem, some_number}
+use Rattle.program.proofs.AnswerLaws.{check_item_lem, number_not_0}
 use Rattle.paper.specs.Sizes.{sizes_in_code}
 use Rattle.paper.proofs.AnswerLaws.{by_writing}
 use Rattle.paper.proofs.WriterLaws.{answer_13, answer_0}
 use Rattle.paper.proofs.write.Goals as goal
-
--- with a value for each variable, the parts of an accepted program are short
-short : (P : Program) → 0 ≡ check_number P → (values : List ℕ) → length values ≡ P.variables
-    → length P.exprs + length P.nodes + length values + length P.widths ≤ 8704
-short P ok values as_many =
-    let facts = accepted P (sym ok) in
-    let s = facts.sizes in
-    omega (
-      arith,
-      s.whole_exprs,
-      s.whole_nodes,
-      s.exprs_fit,
-      s.nodes_fit,
-      s.variables_fit,
-      facts.widths_fit.as_many,
-    )
 
 pub returns-in_err-accepted : goal.returns-in_err-accepted
 returns-in_err-accepted c =
@@ -36,7 +18,7 @@ returns-in_err-accepted c =
     let (_, is, same) = err_from_is_err_and c.from_residual.result c.from_residual.ensures.1 in
     rw (is, same)
     (by_writing (write_check _ _ _ _ _ checked.right_number
-    (ne_eqb _ _ (λ e. let some = some_number c.in_err-accepted.field-0.0 in absurd (omega arith)))
+    (number_not_0 c.in_err-accepted.field-0.0)
     (check_item_lem checked)) _ refl)
 
 -- ---- check has accepted the program
@@ -46,22 +28,6 @@ returns-then-values-program c =
     (ne_eqb _ _ c.if-values-program.true)) _ refl
 
 -- ---- there is a value for each variable
-pub overflow_mul-before_trailer : goal.overflow_mul-before_trailer
-overflow_mul-before_trailer c =
-    omega (
-      arith,
-      short (program_in c.args.program) c.in_ok-accepted.ensures.answer.right_number _
-          c.if-values-program.false,
-    )
-
-pub overflow_add-before_trailer-4 : goal.overflow_add-before_trailer-4
-overflow_add-before_trailer-4 c =
-    omega (
-      arith,
-      short (program_in c.args.program) c.in_ok-accepted.ensures.answer.right_number _
-          c.if-values-program.false,
-    )
-
 pub returns-then-file-before_trailer : goal.returns-then-file-before_trailer
 returns-then-file-before_trailer c =
     answer_13 _ _ _ c.in_ok-accepted.ensures.answer.right_number

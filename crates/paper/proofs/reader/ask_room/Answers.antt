@@ -4,10 +4,8 @@ use Rattle.paper.proofs.reader.ask_room.Goals as goal
 
 pub returns-then-fit : goal.returns-then-fit
 returns-then-fit c file ok right =
-    let l = c.lengths-lengths.ensures in
-    room_answer file ok _ right _ (rw (l.exprs, l.nodes, l.vars) at c.if-fit.true)
+    let l = c.lengths-lengths.ensures in room_answer file ok _ right _ _ _ l.exprs l.nodes l.vars _ c.if-fit.true
 
 pub returns-else-fit : goal.returns-else-fit
 returns-else-fit c file ok right =
-    let l = c.lengths-lengths.ensures in
-    room_answer file ok _ right _ (rw (l.exprs, l.nodes, l.vars) at c.if-fit.false)
+    let l = c.lengths-lengths.ensures in room_answer file ok _ right _ _ _ l.exprs l.nodes l.vars _ c.if-fit.false

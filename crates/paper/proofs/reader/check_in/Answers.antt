@@ -1,54 +1,46 @@
--- `check_in` asks check of the parts in lists of its own, or answers 1 where they are too long for any program.
+-- `check_in` asks question 1 of the sizes, and then copies the parts and asks check.
 use Rattle.std.proofs.Common.{arith}
-use Rattle.paper.proofs.AnswerLaws.{passed_on}
-use Rattle.paper.proofs.ReaderLaws.{length-by_sizes, in_limits, too_long, program_copied}
+use Rattle.std.proofs.lemmas.Result.{err_from_is_err_and}
+use Rattle.paper.proofs.ReaderLaws.{in_limits, too_long, asked_of_file}
 use Rattle.paper.proofs.reader.check_in.Goals as goal
 
 pub returns-then-e-n : goal.returns-then-e-n
 returns-then-e-n c =
-    let l = c.lengths-e.ensures in
-    too_long _ c.requires.0 _ c.requires.1 (rw (← l.exprs, ← l.nodes) c.if-e-n.true)
+    let (ok, right) = c.requires in
+    let l = c.lengths-e.ensures in too_long _ ok _ right _ _ _ l.exprs l.nodes l.vars c.if-e-n.true
 
 -- ---- the parts are copied
 pub take_words-requires : goal.take_words-requires
 take_words-requires c =
+    let (ok, right) = c.requires in
     let l = c.lengths-e.ensures in
-    let size = length-by_sizes _ c.requires.0 _ c.requires.1 in
-    let limits = in_limits _ c.requires.0 _ c.requires.1 (rw (← l.exprs, ← l.nodes) c.if-e-n.false) in
-    (omega (arith, size, l.exprs), omega (arith, limits.0, l.exprs))
+    let s = in_limits _ ok _ right _ _ _ l.exprs l.nodes l.vars c.if-e-n.false in (omega arith, omega arith)
 
 pub take_words-requires-2 : goal.take_words-requires-2
 take_words-requires-2 c =
+    let (ok, right) = c.requires in
     let l = c.lengths-e.ensures in
-    let size = length-by_sizes _ c.requires.0 _ c.requires.1 in
-    let limits = in_limits _ c.requires.0 _ c.requires.1 (rw (← l.exprs, ← l.nodes) c.if-e-n.false) in
-    (omega (arith, size, l.exprs, l.nodes), omega (arith, limits.1, l.nodes))
+    let s = in_limits _ ok _ right _ _ _ l.exprs l.nodes l.vars c.if-e-n.false in (omega arith, omega arith)
 
 pub take_words-requires-3 : goal.take_words-requires-3
 take_words-requires-3 c =
+    let (ok, right) = c.requires in
     let l = c.lengths-e.ensures in
-    let size = length-by_sizes _ c.requires.0 _ c.requires.1 in
-    let limits = in_limits _ c.requires.0 _ c.requires.1 (rw (← l.exprs, ← l.nodes) c.if-e-n.false) in
-    (omega (arith, size, l.exprs, l.nodes, l.vars), omega (arith, limits.2, l.vars))
+    let s = in_limits _ ok _ right _ _ _ l.exprs l.nodes l.vars c.if-e-n.false in (omega arith, omega arith)
 
--- ---- the first words of each list are those of a part, so that check is asked of the program in the file
+-- ---- check is asked
 pub returns-in_err-check : goal.returns-in_err-check
 returns-in_err-check c =
     let (ok, right) = c.requires in
     let l = c.lengths-e.ensures in
-    let limits = in_limits _ ok _ right (rw (← l.exprs, ← l.nodes) c.if-e-n.false) in
-    let same = program_copied _ ok _ right _ _ _ l.exprs l.nodes l.vars (omega (arith, limits.0, l.exprs))
-    (omega (arith, limits.1, l.nodes)) (omega (arith, limits.2, l.vars)) _ _ _
-    c.take_words.ensures c.take_words-2.ensures c.take_words-3.ensures in
-    let (number, item) = passed_on _ _ c.from_residual.ensures in
-    rw (← same, number, item) c.in_err-check.ensures.answer
+    let (_, is, same) = err_from_is_err_and c.from_residual.result c.from_residual.ensures.1 in
+    rw (is, same)
+    (asked_of_file _ ok _ right _ _ _ l.exprs l.nodes l.vars c.if-e-n.false _ _ _ c.take_words.ensures
+    c.take_words-2.ensures c.take_words-3.ensures c.in_err-check.ensures.answer)
 
 pub returns : goal.returns
 returns c =
     let (ok, right) = c.requires in
     let l = c.lengths-e.ensures in
-    let limits = in_limits _ ok _ right (rw (← l.exprs, ← l.nodes) c.if-e-n.false) in
-    let same = program_copied _ ok _ right _ _ _ l.exprs l.nodes l.vars (omega (arith, limits.0, l.exprs))
-    (omega (arith, limits.1, l.nodes)) (omega (arith, limits.2, l.vars)) _ _ _
-    c.take_words.ensures c.take_words-2.ensures c.take_words-3.ensures in
-    rw (← same) c.in_ok-check.ensures.answer
+    asked_of_file _ ok _ right _ _ _ l.exprs l.nodes l.vars c.if-e-n.false _ _ _ c.take_words.ensures
+    c.take_words-2.ensures c.take_words-3.ensures c.in_ok-check.ensures.answer

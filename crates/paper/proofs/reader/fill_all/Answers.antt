@@ -6,37 +6,30 @@ use Rattle.paper.proofs.reader.fill_all.Goals as goal
 pub take_words-requires : goal.take_words-requires
 take_words-requires c =
     let (ok, right) = c.requires.is_file in
-    let p = placed _ ok _ right _ c.requires.fit in
     let l = c.lengths-e.ensures in
-    (omega (arith, p.size, l.exprs), omega (arith, p.exprs, l.exprs))
+    let p = placed _ ok _ right _ _ _ l.exprs l.nodes l.vars _ c.requires.fit in (omega arith, omega arith)
 
 pub take_words-requires-2 : goal.take_words-requires-2
 take_words-requires-2 c =
     let (ok, right) = c.requires.is_file in
-    let p = placed _ ok _ right _ c.requires.fit in
     let l = c.lengths-e.ensures in
-    (omega (arith, p.size, l.exprs, l.nodes), omega (arith, p.nodes, l.nodes))
+    let p = placed _ ok _ right _ _ _ l.exprs l.nodes l.vars _ c.requires.fit in (omega arith, omega arith)
 
 pub take_words-requires-3 : goal.take_words-requires-3
 take_words-requires-3 c =
     let (ok, right) = c.requires.is_file in
-    let p = placed _ ok _ right _ c.requires.fit in
     let l = c.lengths-e.ensures in
-    (omega (arith, p.size, l.exprs, l.nodes, l.vars), omega (arith, p.values, l.vars))
+    let p = placed _ ok _ right _ _ _ l.exprs l.nodes l.vars _ c.requires.fit in (omega arith, omega arith)
 
 pub take_words-requires-4 : goal.take_words-requires-4
 take_words-requires-4 c =
     let (ok, right) = c.requires.is_file in
-    let p = placed _ ok _ right _ c.requires.fit in
     let l = c.lengths-e.ensures in
-    (omega (arith, p.size, l.exprs, l.nodes, l.vars), omega (arith, p.widths, l.vars))
+    let p = placed _ ok _ right _ _ _ l.exprs l.nodes l.vars _ c.requires.fit in (omega arith, omega arith)
 
 pub returns : goal.returns
 returns c =
     let (ok, right) = c.requires.is_file in
     let l = c.lengths-e.ensures in
-    parts_taken _ ok _ right _ _
-    (rw (← l.exprs) c.take_words.ensures)
-    (rw (← l.exprs, ← l.nodes) c.take_words-2.ensures)
-    (rw (← l.exprs, ← l.nodes, ← l.vars) c.take_words-3.ensures)
-    (rw (← l.exprs, ← l.nodes, ← l.vars) c.take_words-4.ensures)
+    parts_taken _ ok _ right _ _ _ l.exprs l.nodes l.vars _ _ c.take_words.ensures c.take_words-2.ensures
+    c.take_words-3.ensures c.take_words-4.ensures

@@ -1,12 +1,9 @@
 -- `put_words` puts one word a turn.
 use mathlib.Core.Path.{◌≡◌}
-use Prim.Native.Nat.{◌*◌, ◌≤◌}
-use lib.ListN.{length}
+use Prim.Native.Nat.{◌*◌}
 use lib.Seq.{paste}
 use Rattle.semantics.specs.Bytes.{bytes_of}
 use Rattle.paper.proofs.words.put_words.Given as goal
 
 abbrev pub invariant-loop-i : goal.invariant-loop-i
-invariant-loop-i l =
-    (l.i ≤ length l.words) × (length l.file ≡ length l.initial.file)
-    × (l.file ≡ paste l.initial.file l.at (bytes_of l.words) (2 * l.i))
+invariant-loop-i l = l.file ≡ paste l.initial.file l.at (bytes_of l.words) (2 * l.i)
