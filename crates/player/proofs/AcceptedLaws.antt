@@ -22,7 +22,8 @@ is_accepted it = accepted (accepted_in it) it.accepted
 module _ (P : Program) (a : Accepted P) (i : ℕ) (l : i < node_count P.nodes) where
   -- the expression that an IF or a WHL reads
   condition_at : (k : Kind) → kind_at P.nodes i ≡ k → reference_words_ok P k (a_at P.nodes i) (b_at P.nodes i) ≡ true
-  condition_at k e = subst (λ (x : Kind). reference_words_ok P x (a_at P.nodes i) (b_at P.nodes i) ≡ true) e (a.ranges_ok i l)
+  condition_at k e =
+      subst (λ (x : Kind). reference_words_ok P x (a_at P.nodes i) (b_at P.nodes i) ≡ true) e (a.ranges_ok i l)
 
   pub condition_there : Branches P.nodes i → a_at P.nodes i < expr_count P.exprs
   unfolding reference_words_ok

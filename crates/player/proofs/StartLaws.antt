@@ -15,39 +15,28 @@ use Rattle.player.proofs.MemoLaws.{known_unworked}
 -- ---- the values of the variables
 
 -- written over the first of zeros, at the first moment, at which nothing is worked
-module _ (values ys : List ℕ) (memo : Memo) (new : memo ≡ new_memo) (same : ys ≡ values) (fit : length values ≤ 256) where
+module _ (values : List ℕ) (fit : length values ≤ 256) where
   abbrev filled : Memo
-  filled = record memo { variables = put_mid 0 (length values) memo.variables ys }
-
-  size : length memo.variables ≡ 256
-  size = ap (λ (m : Memo). length m.variables) new ∙ length-replicate {A = ℕ} 256 0
-
-  many : length ys ≡ length values
-  many = ap (λ (l : List ℕ). length l) same
+  filled = record new_memo { variables = put_mid 0 (length values) new_memo.variables values }
 
   pub known_filled : (exprs : List ℕ) → Known exprs filled
   known_filled exprs =
-      let no_moment : (e : ℕ) → get_or memo.moments e 0 ≡ 0 =
-      λ e. ap (λ (m : Memo). get_or m.moments e 0) new ∙ zeros 1024 e in
-      let first : memo.present ≡ 1 = ap (λ (m : Memo). m.present) new in
       known_unworked exprs filled filled (record {
         size = record {
-          variables = search (rules, places, size, many, fit);
-          formulas = ap (λ (m : Memo). length m.formulas) new ∙ length-replicate {A = ℕ} 1024 0;
-          moments = ap (λ (m : Memo). length m.moments) new ∙ length-replicate {A = ℕ} 1024 0;
+          variables = search (rules, places, fit);
+          formulas = length-replicate {A = ℕ} 1024 0;
+          moments = length-replicate {A = ℕ} 1024 0;
         };
         variables = refl;
-        unknown = λ e l. rw (no_moment e, first) (omega arith);
+        unknown = λ e l. rw (zeros 1024 e) (omega arith);
       })
 
   pub holds_filled : Holds values filled
   holds_filled v = elim (lt_or_le v (length values)) [
-    | inl l ↦
-        let first : get_or filled.variables v 0 ≡ get_or ys v 0 = search (rules, places, size, many, fit, l) in
-        first ∙ ap (λ (list : List ℕ). get_or list v 0) same
+    | inl l ↦ search (rules, places, fit, l)
     | inr l ↦
-        let last : get_or filled.variables v 0 ≡ get_or memo.variables v 0 = search (rules, places, size, many, fit, l) in
-        last ∙ ap (λ (m : Memo). get_or m.variables v 0) new ∙ zeros 256 v ∙ sym (get_or-eq_default values 0 l)
+        let last : get_or filled.variables v 0 ≡ get_or new_memo.variables v 0 = search (rules, places, fit, l) in
+        last ∙ zeros 256 v ∙ sym (get_or-eq_default values 0 l)
   ]
 
 -- past the widths there is no bit, and the mask is 0

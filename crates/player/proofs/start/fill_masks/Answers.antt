@@ -32,8 +32,10 @@ loop-v-preserved c =
     record {
       size = length-set masks l.v mask ∙ size;
       filled = rw c.greatest.ensures
-          (fill_by_more (λ v. 2 ^ width_at c.args.program.now.lists.widths.now v - 1) masks l.v 0 (omega arith) l.invariant.filled);
-      zeros = λ k u. get_or-set_other masks l.v k mask 0 (λ (e : k ≡ l.v). omega arith) ∙ l.invariant.zeros k (omega arith);
+          (fill_by_more (λ v. 2 ^ width_at c.args.program.now.lists.widths.now v - 1) masks l.v 0 (omega arith)
+          l.invariant.filled);
+      zeros = λ k u.
+          get_or-set_other masks l.v k mask 0 (λ (e : k ≡ l.v). omega arith) ∙ l.invariant.zeros k (omega arith);
       kept = ap (λ (w : Work). record w { masks = set masks l.v mask }) l.invariant.kept;
     }
 

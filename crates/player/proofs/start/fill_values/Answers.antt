@@ -6,10 +6,10 @@ use Rattle.player.proofs.start.fill_values.Goals as goal
 
 pub returns-clause-known : goal.returns-clause-known
 returns-clause-known c =
-    known_filled c.args.values.now c.copy_from_slice.new.self c.args.work.now.memo
-    (ap (λ (w : Work). w.memo) c.requires.new) c.copy_from_slice.ensures.after c.requires.values_len
+    rw (ap (λ (w : Work). w.memo) c.requires.new, c.copy_from_slice.ensures.after)
+    (known_filled c.args.values.now c.requires.values_len)
 
 pub returns-clause-holds : goal.returns-clause-holds
 returns-clause-holds c =
-    holds_filled c.args.values.now c.copy_from_slice.new.self c.args.work.now.memo
-    (ap (λ (w : Work). w.memo) c.requires.new) c.copy_from_slice.ensures.after c.requires.values_len
+    rw (ap (λ (w : Work). w.memo) c.requires.new, c.copy_from_slice.ensures.after)
+    (holds_filled c.args.values.now c.requires.values_len)
