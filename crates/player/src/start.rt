@@ -16,7 +16,7 @@ pub fn fill_values(values: &[u16], work: &mut Work)
     requires new { work.old ≡ new_work }
     ensures known { (exprs : List ℕ) → Known exprs work.new.memo }
     ensures holds { Holds values.now work.new.memo }
-    ensures kept { work.new ≡ record work.old { memo = work.new.memo } }
+    ensures kept { work.new ≡ record new_work { memo = work.new.memo } }
 {
     work.memo.variables[..values.len()].copy_from_slice(values);
 }

@@ -81,7 +81,7 @@ pub fn ask_state(
     ensures { result ≡ answer_to
         (well_formed (accepted_in program.now) (state_of values.now marks.now counts.now)) Refusal.State }
 {
-    if values_in_range(program, values) & control_formed(program, marks, counts) {
+    if values_in_range(program, values) && control_formed(program, marks, counts) {
         Ok(())
     } else {
         Err(Refusal::State)

@@ -32,5 +32,5 @@ returns c =
       climbing = parents.ensures.climbing;
       masks = λ v l. ap (λ (w : Work). get_or w.masks v 0) parents.ensures.kept ∙ masks.ensures.masks v l;
       unmet = ap (λ (w : Work). w.looped) parents.ensures.kept ∙ ap (λ (w : Work). w.looped) masks.ensures.kept
-          ∙ ap (λ (w : Work). w.looped) values.ensures.kept ∙ ap (λ (w : Work). w.looped) c.requires.new;
+          ∙ ap (λ (w : Work). w.looped) values.ensures.kept;
     }
