@@ -25,3 +25,5 @@ module _ (nodes : List ℕ) (h : ℕ) where
         → parent_below nodes i (up_to above) ≡ parent_below nodes i (suc h)
     climb l ended None e = sym (climb_none nodes i h l ended (sym e))
     climb l ended (Some p) e = sym (climb_some nodes i h p l ended (sym e))
+
+pub ruleset climbing = (parent_found, lower, climb)

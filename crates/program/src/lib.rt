@@ -52,6 +52,7 @@ pub struct VarId(pub u16);
 pub struct ChanId(pub u16);
 
 // Asks questions 1 to 4 and 11, in time linear in the lengths of the lists.
+#[tactic(auto, using(crate::proofs::CheckLaws::none_no))]
 pub fn check<'a>(program: Program<'a>) -> Result<Accepted<'a>, Refusal>
     ensures answer { CheckAnswer (program_in program.entry) (number_of result) (item_of result) }
     ensures same { IfOk result (λ it. it.lists ≡ program.entry) }

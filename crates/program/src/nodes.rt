@@ -66,6 +66,7 @@ fn leaf_end_ok(kind: Kind, i: u16, end: u16) -> bool
 }
 
 // Node i has no fault of question 3.
+#[tactic(auto, unfolding(semantics::specs::Check::node_ok, semantics::specs::Check::kind_ok, semantics::specs::Check::end_ok))]
 pub fn node_ok(program: &Program, i: u16, place: Place) -> bool
     requires { IsPlace program.now.nodes.now (node_count program.now.nodes.now) i place }
     ensures { result ≡ node_ok program.now.nodes.now i }

@@ -1,6 +1,6 @@
 -- `check` asks one question after the other, and `?` passes on the first refusal.
 use Rattle.program.specs.Answer.{program_in}
-use Rattle.program.proofs.CheckLaws.{refused, first_1, first_2, first_3, first_4, first_11, none_no}
+use Rattle.program.proofs.CheckLaws.{refused, first_1, first_2, first_3, first_4, first_11}
 use Rattle.program.proofs.check.Goals as goal
 
 pub returns-in_err-ask_sizes-clause-answer : goal.returns-in_err-ask_sizes-clause-answer
@@ -32,10 +32,3 @@ returns-in_err-ask_widths-clause-answer c =
     refused P _ _ c.from_residual-in_err-ask_widths.ensures 11 _ c.in_err-ask_widths.ensures
     (first_11 P c.in_ok-ask_sizes.ensures.asked c.in_ok-ask_exprs.ensures c.in_ok-ask_nodes.ensures
     c.in_ok-ask_ranges.ensures)
-
--- no question is answered no, so the program is accepted
-pub invariant_of-result : goal.invariant_of-result
-invariant_of-result c = record {
-  accepted = none_no (program_in c.args.program) c.in_ok-ask_sizes.ensures.asked c.in_ok-ask_exprs.ensures
-      c.in_ok-ask_nodes.ensures c.in_ok-ask_ranges.ensures c.in_ok-ask_widths.ensures;
-}

@@ -7,11 +7,9 @@ use Rattle.paper.proofs.lengths.FileSizesFromRefAccepted.from.Goals as goal
 pub overflow_cast-result : goal.overflow_cast-result
 overflow_cast-result c =
     let program = c.args.program.now in
-    let count = c.node_count.ensures in
-    omega (arith, (accepted (accepted_in program) program.accepted).sizes.nodes_fit)
+    let s = (accepted (accepted_in program) program.accepted).sizes in omega arith
 
 pub overflow_cast-result-2 : goal.overflow_cast-result-2
 overflow_cast-result-2 c =
     let program = c.args.program.now in
-    let count = c.expr_count.ensures in
-    omega (arith, (accepted (accepted_in program) program.accepted).sizes.exprs_fit)
+    let s = (accepted (accepted_in program) program.accepted).sizes in omega arith
