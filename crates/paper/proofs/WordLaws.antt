@@ -6,7 +6,7 @@ use native.Mathlib.Nat.{zero-add}
 use native.Mathlib.Numerals.{add-one}
 use native.Mathlib.Omega.{arith}
 use lib.ListN.{length, get_or, take, drop, set, length-drop, length-append}
-use lib.Seq.{paste, paste-suc, sets, get_or-drop, length-take-le, drop-drop, drop-append-add, take_at, take_all}
+use lib.Seq.{paste, paste-suc, sets, get_or-drop, drop-drop, drop-append-add, take_at, take_all}
 use Rattle.semantics.specs.Bytes.{bytes_of, words_of}
 use Rattle.semantics.specs.FileCalls.{filled}
 use Rattle.semantics.proofs.Files.BytesLaws.{length-bytes, bytes-append, length-words, low_byte, high_byte}
@@ -26,11 +26,6 @@ take_one file from i list list₀ word within room copied right =
     rw (add-one i, copied, right, ← get_or-drop from (words_of file) i 0)
     (subst (λ (k : ℕ). set (paste list₀ 0 words i) k (get_or words i 0) ≡ paste list₀ 0 words (suc i))
     (zero-add i) turn)
-
--- all are taken: a buffer with a part of the file at its start
-pub taken : (words list : List ℕ) (n : ℕ) → n ≤ length words → paste list 0 words n ≡ filled (take n words) list
-taken words list n l =
-    ap (λ (k : ℕ). take n words ++ drop k list) (zero-add n ∙ sym (length-take-le n words l))
 
 -- ---- putting
 

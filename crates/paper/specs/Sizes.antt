@@ -1,6 +1,6 @@
 -- What sizes promises, and what the word for C holds.
-use Rattle.std.specs.Prelude.{◌≡◌, Bool, true, false, List, ℕ, Option, Some, None, ◌/◌, ◌%◌}
-use Rattle.semantics.specs.File.{Sizes}
+use Rattle.std.specs.Prelude.{◌≡◌, ◌+◌, ◌*◌, ◌≤◌, Bool, true, false, List, ℕ, length, Option, Some, None, ◌/◌, ◌%◌}
+use Rattle.semantics.specs.File.{Sizes, Parts, exprs_back, sizes_in, file_ok}
 use Rattle.semantics.specs.FileCalls.{sizes_answer}
 use Rattle.paper.specs.declared.lengths.FileSizes.{FileSizes}
 
@@ -12,6 +12,19 @@ sizes_from nodes exprs vars chans =
 -- The rules' sizes of those in code.
 abbrev pub sizes_in_code : FileSizes → Sizes
 sizes_in_code s = sizes_from s.nodes s.exprs s.vars s.chans
+
+-- The bytes are a file, and these are its sizes.
+pub record AreSizes (file : List ℕ) (sizes : FileSizes) : Type 0 where
+  pub is_file : file_ok file ≡ true
+  pub right : sizes_in_code sizes ≡ sizes_in file
+  pub all_bytes : length file ≡ 2 * exprs_back (sizes_in_code sizes) + 16
+
+-- Four lists are long enough for the parts of a file with these sizes.
+pub record HaveRoom (sizes : FileSizes) (lists : Parts) : Type 0 where
+  pub exprs : 3 * sizes.exprs ≤ length lists.exprs
+  pub nodes : 5 * sizes.nodes ≤ length lists.nodes
+  pub values : sizes.vars ≤ length lists.values
+  pub widths : sizes.vars ≤ length lists.widths
 
 -- The sizes that are given, or 0 for each.
 abbrev pub given : Option FileSizes → FileSizes

@@ -1,4 +1,4 @@
-// Papers as files: the calls sizes, read and write.
+// Papers as files: the calls sizes, read and write. Tests are joined by `&` and `|`, as in program.
 #![tactic(auto)]
 
 pub mod c_interface; // the calls for C

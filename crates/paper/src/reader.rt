@@ -1,11 +1,11 @@
 // What a file holds: its program is checked in lists of the reader's own, and only then are lent lists filled.
 // These stay parameters by themselves: of a struct that holds a `&mut` each function would have to say that it is the same list.
-ghost use Rattle.std.specs.Prelude.{◌≡◌, true, List, ℕ};
-ghost use Rattle.semantics.specs.File.{parts_in, program_in, file_ok, sizes_in};
+ghost use Rattle.std.specs.Prelude.{◌≡◌, List, ℕ, IfOk};
+ghost use Rattle.semantics.specs.File.{parts_in, program_in};
 ghost use Rattle.semantics.specs.FileCalls.{all_fit, all_filled};
 ghost use Rattle.program.specs.Answer.{CheckAnswer, number_of, item_of, answer_to};
 ghost use Rattle.paper.specs.Read.{parts_from};
-ghost use Rattle.paper.specs.Sizes.{sizes_in_code};
+ghost use Rattle.paper.specs.Sizes.{AreSizes, HaveRoom};
 
 use super::lengths::{FileSizes, Lengths};
 use super::words::take_words;
@@ -15,7 +15,7 @@ use program::{Program, Refusal, check};
 // What check asks of the program in a file. Parts that are longer than those of any accepted program break question 1,
 // so that the lists here are long enough for the others.
 pub fn check_in(file: &[u8], sizes: FileSizes) -> Result<(), Refusal>
-    requires { (file_ok file.now ≡ true) × (sizes_in_code sizes ≡ sizes_in file.now) }
+    requires { AreSizes file.now sizes }
     ensures { CheckAnswer (program_in file.now) (number_of result) (item_of result) }
 {
     let Lengths {
@@ -50,9 +50,9 @@ pub fn ask_room(
     values: &[u16],
     widths: &[u16],
 ) -> Result<(), Refusal>
-    ensures { (file : List ℕ) → file_ok file ≡ true → sizes_in_code sizes ≡ sizes_in file
-        → result ≡ answer_to
+    ensures asked { (file : List ℕ) → AreSizes file sizes → result ≡ answer_to
         (all_fit (parts_in file) (parts_from exprs.now nodes.now values.now widths.now)) Refusal.Room }
+    ensures room { IfOk result (λ _. HaveRoom sizes (parts_from exprs.now nodes.now values.now widths.now)) }
 {
     let lengths = sizes.lengths();
     let fit = (lengths.exprs <= exprs.len())
@@ -71,8 +71,8 @@ pub fn fill_all(
     values: &mut [u16],
     widths: &mut [u16],
 )
-    requires is_file { (file_ok file.now ≡ true) × (sizes_in_code sizes ≡ sizes_in file.now) }
-    requires fit { all_fit (parts_in file.now) (parts_from exprs.old nodes.old values.old widths.old) ≡ true }
+    requires right { AreSizes file.now sizes }
+    requires room { HaveRoom sizes (parts_from exprs.old nodes.old values.old widths.old) }
     ensures { parts_from exprs.new nodes.new values.new widths.new
         ≡ all_filled (parts_in file.now)
         (parts_from exprs.old nodes.old values.old widths.old) }

@@ -1,7 +1,7 @@
 // The trailer of a file: sizes, then the distances of the parts back from it. Question 12 is asked here.
 ghost use Rattle.std.specs.Prelude.{◌≡◌, ◌≤◌, ◌<◌, length, get_or, true, false, MatchOption};
 ghost use Rattle.semantics.specs.File.{trailer_in, sizes_in, exprs_back, nodes_back, values_back, widths_back, distances_ok, file_ok};
-ghost use Rattle.paper.specs.Sizes.{sizes_in_code};
+ghost use Rattle.paper.specs.Sizes.{sizes_in_code, AreSizes};
 
 use super::lengths::{FileSizes, Lengths};
 use super::words::word_in;
@@ -69,8 +69,7 @@ fn distances_ok(file: &[u8], sizes: FileSizes) -> bool
 // Question 12: the sizes of a file, if the bytes are one.
 #[tactic(auto, unfolding(semantics::specs::File::file_ok))]
 pub fn sizes_of_file(file: &[u8]) -> Option<FileSizes>
-    ensures { MatchOption result (file_ok file.now ≡ false)
-        (λ sizes. (file_ok file.now ≡ true) × (sizes_in_code sizes ≡ sizes_in file.now)) }
+    ensures { MatchOption result (file_ok file.now ≡ false) (λ sizes. AreSizes file.now sizes) }
 {
     if file.len() < 16 {
         return None;

@@ -15,20 +15,19 @@ returns-in_err-check_in c =
     let checked = c.in_err-check_in.ensures in
     let (_, is, same) = err_from_is_err_and c.from_residual.result c.from_residual.ensures.1 in
     rw (is, same)
-    (by_reading (read_check _ _ c.in-Some.ensures.0 _ _ checked.right_number
-    (number_not_0 c.in_err-check_in.field-0.0)
-    (check_item_lem checked)) _ refl)
+    (by_reading (read_check _ _ c.in-Some.ensures.is_file _ _ checked.right_number
+    (number_not_0 c.in_err-check_in.field-0.0) (check_item_lem checked)) _ refl)
 
 -- ---- the buffers are asked about: check has accepted the program
 pub returns-in_err-ask_room : goal.returns-in_err-ask_room
 returns-in_err-ask_room c =
-    let (ok, right) = c.in-Some.ensures in
-    let (short, room) = answer_to-err _ _ (c.in_err-ask_room.ensures _ ok right) in
+    let are = c.in-Some.ensures in
+    let (short, room) = answer_to-err _ _ (c.in_err-ask_room.ensures.asked _ are) in
     let (_, is, same) = err_from_is_err_and c.from_residual-in_err-ask_room.result c.from_residual-in_err-ask_room.ensures.1 in
-    rw (is, same, room) (by_reading (read_13 _ _ ok c.in_ok-check_in.ensures.right_number short) _ refl)
+    rw (is, same, room) (by_reading (read_13 _ _ are.is_file c.in_ok-check_in.ensures.right_number short) _ refl)
 
 pub returns : goal.returns
 returns c =
-    let (ok, right) = c.in-Some.ensures in
-    by_reading (read_0 _ _ ok c.in_ok-check_in.ensures.right_number (answer_to-ok _ _ (c.in_ok-ask_room.ensures _ ok right))) _
-    c.fill_all.ensures
+    let are = c.in-Some.ensures in
+    let room = answer_to-ok _ _ (c.in_ok-ask_room.ensures.asked _ are) in
+    by_reading (read_0 _ _ are.is_file c.in_ok-check_in.ensures.right_number room) _ c.fill_all.ensures
