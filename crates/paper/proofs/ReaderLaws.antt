@@ -1,19 +1,19 @@
 -- Laws of what the code of read and sizes has found.
 use mathlib.Core.Path.{◌≡◌, refl, sym, ap, ◌∙◌, subst}
-use mathlib.Core.Bool.{Bool, true, false, ◌||◌}
+use mathlib.Core.Bool.{Bool, true, false, ◌&&◌, ◌||◌}
 use mathlib.Core.List.{List}
 use Prim.Native.Nat.{ℕ, ◌+◌, ◌*◌, ◌≤◌}
 use native.Mathlib.Nat.{zero-add}
 use native.Mathlib.Omega.{arith}
-use lib.Dec.{ltb}
+use lib.Dec.{leb, ltb}
 use lib.ListN.{length, take, drop, replicate, length-drop, length-replicate}
 use lib.Seq.{paste, take-paste, drop-drop}
 use borrow.Author.Tests.{ltb-false, le-ltb}
 use Rattle.semantics.specs.Bytes.{words_of}
 use Rattle.semantics.specs.Program.{Program}
 use Rattle.semantics.specs.Check.{sizes_ok, fault_item}
-use Rattle.semantics.specs.File.{Sizes, sizes_in, parts_at, parts_in, program_from, program_in, file_ok}
-use Rattle.semantics.specs.FileCalls.{sizes_answer}
+use Rattle.semantics.specs.File.{Sizes, Parts, sizes_in, parts_at, parts_in, program_from, program_in, file_ok}
+use Rattle.semantics.specs.FileCalls.{all_fit, sizes_answer}
 use Rattle.semantics.proofs.Lists.FaultLaws.{no_item}
 use Rattle.semantics.proofs.Lists.Logic.{or_left, or_right}
 use Rattle.semantics.proofs.Lists.QuestionLaws.{sized_limits}
@@ -21,7 +21,8 @@ use Rattle.semantics.proofs.Files.BytesLaws.{length-words}
 use Rattle.semantics.proofs.Files.FileLaws.{parts_in_fit}
 use Rattle.semantics.proofs.Files.FileCallLaws.{sizes_yes, sizes_no}
 use Rattle.std.specs.Prelude.{Option, Some, None, MatchOption}
-use Rattle.program.specs.Answer.{program_of, CheckAnswer}
+use Rattle.program.specs.declared.refusal.Refusal.TheVariants.{Room}
+use Rattle.program.specs.Answer.{program_of, CheckAnswer, answer_to}
 use Rattle.program.proofs.CheckLaws.{first_1}
 use Rattle.paper.specs.declared.lengths.FileSizes.{FileSizes}
 use Rattle.paper.specs.Sizes.{sizes_from, AreSizes, given, SizesAnswer}
@@ -41,16 +42,29 @@ pub given_answer : (file : List ℕ) (r : Option FileSizes) → MatchOption r (f
 given_answer file None none_there = sizes_answer_lem file 0 0 0 0 (sym (sizes_no file none_there))
 given_answer file (Some s) known = sizes_answer_lem file _ _ _ _ (known.right ∙ sym (sizes_yes file known.is_file))
 
--- ---- what check is asked of a file
+-- ---- what is asked of a file, by the lengths of its parts
 
 refused_1 : (P : Program) → sizes_ok P ≡ false → CheckAnswer P 1 0
 refused_1 P fails =
     let e = first_1 P fails in
     record { right_number = e; right_item = sym (no_item P 1 refl) ∙ ap (fault_item P) e }
 
--- of the lengths of the parts in words: those of the expressions, of the nodes, and of the values and the widths each
+-- the lengths in words: those of the expressions, of the nodes, and of the values and the widths each
 module _ (file : List ℕ) (s : FileSizes) (are : AreSizes file s) (e n v : ℕ) (is_e : e ≡ 3 * s.exprs)
     (is_n : n ≡ 5 * s.nodes) (is_v : v ≡ s.vars) where
+  -- question 13 asks of the lengths what the rules ask of the parts
+  pub room_answer : (b : Parts) {fit : Bool}
+      → leb e (length b.exprs) && leb n (length b.nodes) && leb v (length b.values) && leb v (length b.widths) ≡ fit
+      → answer_to fit Room ≡ answer_to (all_fit (parts_in file) b) Room
+  room_answer b h =
+      let fit = parts_in_fit file are.is_file in
+      let same : (leb e (length b.exprs) && leb n (length b.nodes) && leb v (length b.values) && leb v (length b.widths))
+      ≡ all_fit (parts_in file) b =
+      rw (fit.exprs, fit.nodes, fit.values, fit.widths, is_e, is_n, is_v)
+      (ap (λ (x : Sizes). leb (3 * x.exprs) (length b.exprs) && leb (5 * x.nodes) (length b.nodes)
+      && leb x.variables (length b.values) && leb x.variables (length b.widths)) are.right) in
+      ap (λ (x : Bool). answer_to x Room) (sym h ∙ same)
+
   -- a part that is longer than any accepted program's
   pub too_long : ltb 3072 e || ltb 5120 n || ltb 256 s.vars ≡ true → CheckAnswer (program_in file) 1 0
   too_long long = refused_1 (program_in file) (pick (sizes_ok (program_in file)) refl)
