@@ -1,121 +1,121 @@
 -- Questions 7 to 9 as a cycle in code asks them: from what each step found to the rules' answer, and the marks after it.
-use Rattle.std.proofs.Common.{◌≡◌, ℕ, ◌≤◌, ◌<◌, Bool, true, false, List, length, get_or, replicate, Ok, Err, refl, sym, ap, ◌∙◌, subst, arith}
+use Rattle.std.proofs.Common.{◌≡◌, ℕ, ◌≤◌, ◌<◌, true, false, List, length, replicate, Ok, Err, refl, sym, ap, ◌∙◌, subst, arith}
 use borrow.Author.Tests.{eq-eqb, ne_eqb}
 use Rattle.semantics.specs.Program.{Program}
 use Rattle.semantics.specs.Questions.{first_no}
-use Rattle.semantics.specs.State.{State}
-use Rattle.semantics.specs.Completion.{channels_free}
+use Rattle.semantics.specs.Completion.{channels_free, targets_apart}
 use Rattle.semantics.specs.Cycle.{are_active}
 use Rattle.program.specs.declared.refusal.Refusal.{Refusal}
 use Rattle.program.specs.declared.refusal.Refusal.TheVariants.{Entries, Channels, Stores as StoresClash}
 use Rattle.program.specs.Refusals.{question_number, fault_in}
-use Rattle.program.proofs.AnswerLaws.{some_number}
-use Rattle.player.specs.declared.work.Work.{Work}
+use Rattle.program.proofs.AnswerLaws.{some_number, answer_to-ok, answer_to-err}
 use Rattle.player.specs.declared.claims.Claims.{Claims}
-use Rattle.player.specs.declared.stores.Stores.{Stores}
-use Rattle.player.specs.Entries.{crossable, set_all}
+use Rattle.player.specs.declared.memo.Memo.{Memo}
+use Rattle.player.specs.declared.scratch.Scratch.{Scratch}
+use Rattle.player.specs.Entries.{crossable, set_all, uncrossed, CrossedOut}
+use Rattle.player.specs.Memo.{Known}
 use Rattle.player.specs.Claims.{Aged}
-use Rattle.player.specs.Channels.{CycleOf, Pairing}
+use Rattle.player.specs.Channels.{marks_of, CycleOf, Pairing}
 use Rattle.player.specs.Stores.{Storing, RightSides}
-use Rattle.player.specs.Cycle.{CycleFrom, Carried, first_questions, AskAnswer}
-use Rattle.player.proofs.UndoLaws.{formed_bits}
-use Rattle.player.proofs.EntryLaws.{active_crossable, crossable_most, all-crossed}
+use Rattle.player.specs.Cycle.{CycleFrom, first_questions, AskAnswer}
+use Rattle.player.proofs.EntryLaws.{active_crossable, crossable_most, all-crossed, all-marked, marked_again}
 
-module _ {P : Program} {s : State} {entries : List ℕ} (x : CycleFrom P s entries) where
+-- what is crossed out of the marks stands in them when it is marked again
+pub crossed_undone : {entries start marks : List ℕ} {r : ℕ} → CrossedOut entries start r marks
+    → uncrossed entries r marks ≡ start
+crossed_undone {entries} {start} {r = r} h =
+    ap (uncrossed entries r) h.right ∙ marked_again start entries r (let rest = h.rest in omega arith)
+
+module _ {P : Program} {marks entries : List ℕ} (x : CycleFrom P marks entries) where
   -- ---- question 7
 
-  pub not_active : crossable s.marks entries < length entries → are_active s.marks entries ≡ false
+  pub not_active : crossable marks entries < length entries → are_active marks entries ≡ false
   not_active l =
-      active_crossable s.marks entries x.as_many
-      ∙ ne_eqb (crossable s.marks entries) (length entries) (λ e. omega arith)
+      active_crossable marks entries x.as_many
+      ∙ ne_eqb (crossable marks entries) (length entries) (λ e. omega arith)
 
-  pub is_active : length entries ≤ crossable s.marks entries → are_active s.marks entries ≡ true
+  pub is_active : length entries ≤ crossable marks entries → are_active marks entries ≡ true
   is_active l =
-      let most = crossable_most s.marks entries in
-      active_crossable s.marks entries x.as_many
-      ∙ eq-eqb (crossable s.marks entries) (length entries) (omega arith)
+      let most = crossable_most marks entries in
+      active_crossable marks entries x.as_many
+      ∙ eq-eqb (crossable marks entries) (length entries) (omega arith)
 
   -- where one of the questions refuses, the marks are as they were
-  refused : (refusal : Refusal) {stamp : ℕ} {marks' : List ℕ} {work : Work} {claims : Claims} {stores : Stores}
-      → question_number refusal ≡ first_no (first_questions P s.marks entries) → fault_in refusal ≡ 0
-      → marks' ≡ s.marks → AskAnswer P s entries stamp (Err refusal) marks' work claims stores
+  refused : (refusal : Refusal) {marks' : List ℕ} {before scratch : Scratch}
+      → question_number refusal ≡ first_no (first_questions P marks entries) → fault_in refusal ≡ 0
+      → marks' ≡ marks → AskAnswer P marks entries before (Err refusal) marks' scratch
   refused refusal asked no_item same =
       let some = some_number refusal in
-      record {
-        asked = asked;
-        no_item = no_item;
-        kept = λ n. same;
-        cleared = λ z. absurd (omega (arith, z));
-        started = λ z. absurd (omega (arith, z));
-        aged = λ z. absurd (omega (arith, z));
-      }
+      record { asked = asked; no_item = no_item; kept = λ n. same; yes = λ z. absurd (omega (arith, z)) }
 
-  pub answer_seven : {stamp : ℕ} {marks' : List ℕ} {work : Work} {claims : Claims} {stores : Stores}
-      → are_active s.marks entries ≡ false → marks' ≡ s.marks
-      → AskAnswer P s entries stamp (Err Entries) marks' work claims stores
+  pub answer_seven : {marks' : List ℕ} {before scratch : Scratch} → are_active marks entries ≡ false → marks' ≡ marks
+      → AskAnswer P marks entries before (Err Entries) marks' scratch
   answer_seven no-active same = refused Entries (sym (rw no-active)) refl same
 
-  module _ (active : are_active s.marks entries ≡ true) where
+  module _ (active : are_active marks entries ≡ true) where
+    -- the marks are those of the entries
+    pub are_marked : marks ≡ marks_of P entries
+    unfolding marks_of
+    are_marked =
+        sym (ap (λ (n : ℕ). set_all 1 (replicate n 0) entries) (sym x.marks_fit)
+        ∙ all-marked marks entries active x.bits)
+
     -- the cycle, once question 7 is answered yes
     abbrev pub cycle_of : CycleOf P entries
     cycle_of = record {
-      marks = s.marks;
       accepted = x.accepted;
-      marks_fit = x.fit.marks;
-      entries_active = active;
+      entries_active = subst (λ (m : List ℕ). are_active m entries ≡ true) are_marked active;
     }
 
     -- all are crossed out
-    pub cleared : set_all 0 s.marks entries ≡ replicate (length s.marks) 0
-    cleared = all-crossed s.marks entries active (formed_bits P s x.formed)
+    pub cleared : set_all 0 marks entries ≡ replicate (length marks) 0
+    cleared = all-crossed marks entries active x.bits
 
-    pub answer_eight : {stamp : ℕ} {marks' : List ℕ} {work : Work} {claims : Claims} {stores : Stores}
-        → channels_free P s.marks ≡ false → marks' ≡ s.marks
-        → AskAnswer P s entries stamp (Err Channels) marks' work claims stores
-    answer_eight taken same = refused Channels (sym (rw (active, taken))) refl same
+    pub answer_eight : {marks' : List ℕ} {before scratch : Scratch} → channels_free P (marks_of P entries) ≡ false
+        → marks' ≡ marks → AskAnswer P marks entries before (Err Channels) marks' scratch
+    answer_eight taken same =
+        let clash = ap (channels_free P) are_marked ∙ taken in
+        refused Channels (sym (rw (active, clash))) refl same
 
     -- ---- the channels are paired
-    module _ {before claims₁ : Claims} (p : Pairing P s.marks before claims₁) {work : Work}
-        (carried : Carried P s.values s.marks work) where
-      abbrev pub storing : Storing P entries s.values work.memo claims₁
-      storing = record {
+    module _ (before : Scratch) {claims : Claims} (p : Pairing P entries before.claims claims) where
+      pub storing : {memo : Memo} → Known P.exprs memo → Storing P entries memo claims
+      storing known = record {
         cycle = cycle_of;
-        values_fit = x.fit.values;
         paired = p.paired;
         unclaimed = p.unwritten;
-        aged = subst (Aged claims₁) (sym p.stamp) p.aged;
-        known = carried.known;
-        holds = carried.holds;
+        aged = subst (Aged claims) (sym p.stamp) p.aged;
+        known = known;
       }
 
-      module _ {apart : Bool} (work' : Work) {claims : Claims} {stores : Stores}
-          (sides : RightSides P s.marks entries s.values work.memo claims₁ apart work'.memo claims stores) where
-        pub answer_nine : {marks' : List ℕ} → apart ≡ false → marks' ≡ s.marks
-            → AskAnswer P s entries before.stamp (Err StoresClash) marks' work' claims stores
-        answer_nine clash same =
-            refused StoresClash (sym (rw (active, p.free, ← sides.answer, clash))) refl same
+      free : channels_free P marks ≡ true
+      free = ap (channels_free P) are_marked ∙ p.free
 
-        pub answer_none : {marks' : List ℕ} → apart ≡ true → work' ≡ record work { memo = work'.memo }
-            → marks' ≡ replicate (length s.marks) 0
-            → AskAnswer P s entries before.stamp (Ok tt) marks' work' claims stores
-        answer_none is_apart kept clear =
-            let apart = sym sides.answer ∙ is_apart in
-            record {
-              asked = sym (rw (active, p.free, apart));
-              no_item = refl;
-              kept = λ n. absurd (n refl);
-              cleared = λ z. clear;
-              started = λ z. record {
-                from = x;
-                active = active;
-                free = p.free;
-                apart = apart;
-                pending = sides.pending is_apart;
-                known = sides.known;
-                holds = λ v. ap (λ (vs : List ℕ). get_or vs v 0) sides.same.variables ∙ carried.holds v;
-                climbing = λ i l. ap (λ (w : Work). get_or w.parents i 0) kept ∙ carried.climbing i l;
-                masks = λ v l. ap (λ (w : Work). get_or w.masks v 0) kept ∙ carried.masks v l;
-                unmet = ap (λ (w : Work). w.looped) kept ∙ carried.unmet;
-              };
-              aged = λ z. subst (Aged claims) p.stamp sides.aged;
-            }
+      abbrev pairing_made : Scratch
+      pairing_made = record before { claims = claims }
+
+      pub answer_nine : (refusal : Refusal) {scratch : Scratch} → RightSides P entries pairing_made (Err refusal) scratch
+          → {marks' : List ℕ} → marks' ≡ marks → AskAnswer P marks entries before (Err refusal) marks' scratch
+      answer_nine refusal sides same =
+          let (failed, which) = answer_to-err (targets_apart P (marks_of P entries)) StoresClash sides.answered in
+          let clash = ap (targets_apart P) are_marked ∙ failed in
+          rw which (refused StoresClash (sym (rw (active, free, clash))) refl same)
+
+      pub answer_none : {scratch : Scratch} → RightSides P entries pairing_made (Ok tt) scratch
+          → {marks' : List ℕ} → marks' ≡ replicate (length marks) 0
+          → AskAnswer P marks entries before (Ok tt) marks' scratch
+      answer_none {scratch} sides clear =
+          let yes = answer_to-ok (targets_apart P (marks_of P entries)) StoresClash sides.answered in
+          let apart = ap (targets_apart P) are_marked ∙ yes in
+          record {
+            asked = sym (rw (active, free, apart));
+            no_item = refl;
+            kept = λ n. absurd (n refl);
+            yes = λ z. record {
+              are_marked = are_marked;
+              cleared = clear;
+              started = sides.started yes;
+              more = sides.more;
+              aged = subst (Aged scratch.claims) p.stamp sides.aged;
+            };
+          }

@@ -8,7 +8,7 @@ use native.Mathlib.Nat.{le_refl, lt_of_lt_of_le}
 use native.Mathlib.Numerals.{add-one}
 use native.Mathlib.Omega.{arith}
 use lib.Dec.{eqb, leb}
-use lib.ListN.{length, get_or, drop}
+use lib.ListN.{length, get_or, set, drop, replicate, length-set, length-replicate}
 use lib.Seq.{drop-cons}
 use Rattle.semantics.specs.Numbers.{below, up_from, filter}
 use Rattle.semantics.specs.Program.{Program, Kind, Leaf, expr_count, node_count, kind_at, a_at, b_at, leaf_test}
@@ -26,7 +26,8 @@ use Rattle.semantics.proofs.Run.CrossOut.{mark_count-cons}
 use Rattle.semantics.proofs.Run.EntryCounts.{entry_count}
 use Rattle.semantics.proofs.Lists.LeafKinds.{asg_names, in_names, out_names}
 use Rattle.player.specs.declared.claims.Claims.{Claims}
-use Rattle.player.specs.Channels.{CycleOf, PairedEntry, has_kind}
+use Rattle.player.specs.Entries.{set_all}
+use Rattle.player.specs.Channels.{marks_of, CycleOf, Paired, PairedEntry, has_kind}
 
 -- ---- what passes a test
 
@@ -63,6 +64,17 @@ mark_few (m ∷ ms) = rw (mark_count-cons m ms) (pick (eqb m 1) (mark_few ms))
 pub fold_next : {A : Type 0} (step : A → ℕ → A) (a : A) (entries : List ℕ) (k : ℕ) → k < length entries
     → foldl step a (drop k entries) ≡ foldl step (step a (get_or entries k 0)) (drop (k + 1) entries)
 fold_next step a entries k l = rw (add-one k, drop-cons entries k 0 l)
+
+-- ---- the marks of entries
+
+set_all-length : (word : ℕ) (marks es : List ℕ) → length (set_all word marks es) ≡ length marks
+set_all-length word marks [] = refl
+set_all-length word marks (e ∷ es) = set_all-length word (set marks e word) es ∙ length-set marks e word
+
+pub marks_of-length : (P : Program) (entries : List ℕ) → length (marks_of P entries) ≡ node_count P.nodes
+unfolding marks_of
+marks_of-length P entries =
+    set_all-length 1 (replicate (node_count P.nodes) 0) entries ∙ length-replicate {A = ℕ} (node_count P.nodes) 0
 
 -- ---- kinds of leaves
 
@@ -126,25 +138,28 @@ module _ {P : Program} (ok : Accepted P) (i : ℕ) (l : i < node_count P.nodes) 
 -- ---- the entries of a cycle
 
 module _ {P : Program} {entries : List ℕ} (x : CycleOf P entries) where
-  pub entry_marked : (k : ℕ) → k < length entries → marked x.marks (get_or entries k 0) ≡ true
-  entry_marked = ((active_means x.marks entries).0 x.entries_active).each_marked
+  abbrev marks : List ℕ
+  marks = marks_of P entries
+
+  pub entry_marked : (k : ℕ) → k < length entries → marked marks (get_or entries k 0) ≡ true
+  entry_marked = ((active_means marks entries).0 x.entries_active).each_marked
 
   pub entries_few : length entries ≤ 1024
   entries_few =
-      let many = ((active_means x.marks entries).0 x.entries_active).as_many in
-      let few = mark_few x.marks in
-      let fit = x.marks_fit in
+      let many = ((active_means marks entries).0 x.entries_active).as_many in
+      let few = mark_few marks in
+      let fit = marks_of-length P entries in
       let nodes-fit = x.accepted.sizes.nodes_fit in
       omega arith
 
   -- at most one active statement passes a test when at most one entry does
   pub single_entries : (f : ℕ → Bool)
-      → leb (length (filter f (active x.marks))) 1 ≡ leb (length (filter f entries)) 1
-  single_entries f = ap (λ (n : ℕ). leb n 1) (sym (entry_count x.marks entries x.entries_active f))
+      → leb (length (filter f (active marks))) 1 ≡ leb (length (filter f entries)) 1
+  single_entries f = ap (λ (n : ℕ). leb n 1) (sym (entry_count marks entries x.entries_active f))
 
-  module _ (i : ℕ) (m : marked x.marks i ≡ true) where
+  module _ (i : ℕ) (m : marked marks i ≡ true) where
     pub marked_node : i < node_count P.nodes
-    marked_node = subst (λ (n : ℕ). i < n) x.marks_fit (marked_below x.marks i m)
+    marked_node = subst (λ (n : ℕ). i < n) (marks_of-length P entries) (marked_below marks i m)
 
     pub in_channel : has_kind P.nodes is_in i ≡ true → a_at P.nodes i < P.channels
     in_channel k = node_in_channel x.accepted i marked_node k
@@ -173,10 +188,14 @@ module _ {P : Program} {entries : List ℕ} (x : CycleOf P entries) where
 
 -- ---- a marked node
 
-module _ {P : Program} {claims : Claims} {i : ℕ} (x : PairedEntry P claims i) where
-  pub entry_node : i < node_count P.nodes
-  entry_node = marked_node x.cycle i x.is_marked
+-- the entry at an index
+abbrev pub entry_at : {P : Program} {entries : List ℕ} {claims : Claims} (x : CycleOf P entries) → Paired P entries claims
+    → (k : ℕ) → k < length entries → PairedEntry P claims (get_or entries k 0)
+entry_at {P} {entries} x p k l =
+    let m = entry_marked x k l in
+    record { entries = entries; cycle = x; paired = p; within = marked_node x (get_or entries k 0) m; is_marked = m }
 
+module _ {P : Program} {claims : Claims} {i : ℕ} (x : PairedEntry P claims i) where
   -- the channel of an IN, and of an OUT
   pub in_fits : kind_at P.nodes i ≡ LEAF IN → a_at P.nodes i < 256
   in_fits k = channel_fits x.cycle (in_channel x.cycle i x.is_marked (ap (leaf_test is_in) k))

@@ -142,22 +142,21 @@ pub ruleset crossing_out = (crossed-all, crossed_most, crossed_next)
 
 -- ---- crossed out and marked again
 
-pub marked_again : (marks entries : List ℕ)
-    → let crossed = take (crossable marks entries) entries in
-    set_all 1 (set_all 0 marks crossed) crossed ≡ marks
+-- the first r entries
+pub marked_again : (marks entries : List ℕ) (r : ℕ) → r ≤ crossable marks entries
+    → set_all 1 (set_all 0 marks (take r entries)) (take r entries) ≡ marks
 unfolding crossable
-marked_again marks [] = refl
-marked_again marks (e ∷ es) =
-    let rest = take (crossable (set marks e 0) es) es in
-    elim (true_or_false (marked marks e)) [
-      | inl h ↦ rw h
-          (set_all-set 1 (set_all 0 (set marks e 0) rest) rest e
-          ∙ ap (λ (m : List ℕ). set m e 1) (marked_again (set marks e 0) es)
-          ∙ set-set marks e 0 1
-          ∙ ap (λ (m : ℕ). set marks e m) (sym (eqb-true (get_or marks e 0) 1 h))
-          ∙ set-get_or marks e 0)
-      | inr h ↦ rw h
-    ]
+marked_again marks [] zero l = refl
+marked_again marks [] (suc r) l = refl
+marked_again marks (e ∷ es) zero l = refl
+marked_again marks (e ∷ es) (suc r) l =
+    let first = take r es in
+    let h = first_marked marks e es r l in
+    set_all-set 1 (set_all 0 (set marks e 0) first) first e
+    ∙ ap (λ (m : List ℕ). set m e 1) (marked_again (set marks e 0) es r (le_of_suc-le-suc (rw h at l)))
+    ∙ set-set marks e 0 1
+    ∙ ap (λ (m : ℕ). set marks e m) (sym (eqb-true (get_or marks e 0) 1 h))
+    ∙ set-get_or marks e 0
 
 module _ (marks entries : List ℕ) (r : ℕ) (e : r ≡ crossable marks entries) where
   -- the first r entries, those that are crossed out, are nodes
@@ -172,9 +171,7 @@ module _ (marks entries : List ℕ) (r : ℕ) (e : r ≡ crossable marks entries
       omega arith
 
   pub crossed_back : set_all 1 (set_all 0 marks (take r entries)) (take r entries) ≡ marks
-  crossed_back =
-      subst (λ (n : ℕ). set_all 1 (set_all 0 marks (take n entries)) (take n entries) ≡ marks) (sym e)
-      (marked_again marks entries)
+  crossed_back = marked_again marks entries r (omega arith)
 
 -- ---- all crossed out
 
@@ -219,7 +216,8 @@ module _ (marks entries : List ℕ) (active : are_active marks entries ≡ true)
 
   pub all-marked_again : set_all 1 (set_all 0 marks entries) entries ≡ marks
   all-marked_again =
-      ap (λ (es : List ℕ). set_all 1 (set_all 0 marks es) es) (sym all-taken) ∙ marked_again marks entries
+      ap (λ (es : List ℕ). set_all 1 (set_all 0 marks es) es) (sym all-taken)
+      ∙ marked_again marks entries (crossable marks entries) (omega arith)
 
   module _ (bits : marks_are_bits marks ≡ true) where
     pub all-crossed : set_all 0 marks entries ≡ replicate (length marks) 0

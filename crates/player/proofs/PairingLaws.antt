@@ -22,7 +22,7 @@ use Rattle.semantics.proofs.Run.EntryCounts.{single_entry}
 use Rattle.player.specs.declared.claims.Slots.{Slots}
 use Rattle.player.specs.declared.claims.Claims.{Claims as CodeClaims}
 use Rattle.player.specs.Claims.{rank_of, rank_in, is_free, Claims, Aged, Fresh, Unclaimed}
-use Rattle.player.specs.Channels.{CycleOf, Ranked, Paired, Pairing, EntryPairing, has_kind}
+use Rattle.player.specs.Channels.{marks_of, CycleOf, Ranked, Paired, Pairing, EntryPairing, has_kind}
 use Rattle.player.proofs.RankLaws.{unclaimed_rank, unclaimed_old}
 use Rattle.player.proofs.ClaimLaws.{claims_none, claims_more, claims_refused, claims-all}
 use Rattle.player.proofs.CycleLaws.{node_in_fits, node_out_fits, entry_marked, single_entries, in_channel, out_channel, channel_fits, no_in, no_out}
@@ -89,20 +89,23 @@ paired_more {P} {entries} {k} {before} {claims} {claims'} ok inside h l p = reco
 }
 
 module _ {P : Program} {entries : List ℕ} (x : CycleOf P entries) where
+  abbrev marks : List ℕ
+  marks = marks_of P entries
+
   -- the entries that are a leaf of that kind on a channel are the marked ones
   abbrev on_channel : (Leaf → Bool) → ℕ → List ℕ
   on_channel f c = filter (λ i. has_kind P.nodes f i && eqb (a_at P.nodes i) c) entries
 
   -- at most one is marked on the channel
   abbrev single : (Leaf → Bool) → ℕ → Bool
-  single f c = leb (length (marked_on P x.marks f c)) 1
+  single f c = leb (length (marked_on P marks f c)) 1
 
   on_single : (f : Leaf → Bool) (c : ℕ) → single f c ≡ leb (length (on_channel f c)) 1
   on_single f c = single_entries x (λ i. has_kind P.nodes f i && eqb (a_at P.nodes i) c)
 
   on_same : (f : Leaf → Bool) (c : ℕ) → length (on_channel f c) ≤ 1
-      → on_channel f c ≡ marked_on P x.marks f c
-  on_same f c = single_entry x.marks entries x.entries_active (λ i. has_kind P.nodes f i && eqb (a_at P.nodes i) c)
+      → on_channel f c ≡ marked_on P marks f c
+  on_same f c = single_entry marks entries x.entries_active (λ i. has_kind P.nodes f i && eqb (a_at P.nodes i) c)
 
   -- ---- question 8
 
@@ -110,7 +113,7 @@ module _ {P : Program} {entries : List ℕ} (x : CycleOf P entries) where
   all-paired : {before claims : CodeClaims} → ChannelsOnly before claims
       → Claims (has_kind P.nodes is_in) (a_at P.nodes) entries claims.inputs claims.stamp
       → Claims (has_kind P.nodes is_out) (a_at P.nodes) entries claims.outputs claims.stamp
-      → Pairing P x.marks before claims
+      → Pairing P entries before claims
   unfolding channels_free
   all-paired {before} {claims} o hi ho = record {
     free = all-below (λ c. single is_in c && single is_out c) P.channels (λ c l. both
@@ -127,12 +130,12 @@ module _ {P : Program} {entries : List ℕ} (x : CycleOf P entries) where
   }
     where
       ranked : (f : Leaf → Bool) (s : Slots) → Claims (has_kind P.nodes f) (a_at P.nodes) entries s claims.stamp
-          → Ranked P x.marks f s claims.stamp
+          → Ranked P marks f s claims.stamp
       ranked f s h c l = (h c).rank l ∙ ap rank_of (on_same f c (h c).single)
 
   -- two entries want one channel
   not_paired : (c : ℕ) → c < P.channels → (2 ≤ length (on_channel is_in c)) ⊎ (2 ≤ length (on_channel is_out c))
-      → channels_free P x.marks ≡ false
+      → channels_free P marks ≡ false
   unfolding channels_free
   not_paired c l two =
       refuted _ (λ h. clash (every_below (λ c. single is_in c && single is_out c) P.channels h c l) two)
@@ -148,7 +151,7 @@ module _ {P : Program} {entries : List ℕ} (x : CycleOf P entries) where
   -- ---- entry by entry
 
   module _ {k : ℕ} {before claims : CodeClaims} (h : PairedTo P.nodes entries k before claims) where
-    pub paired-all : length entries ≤ k → Pairing P x.marks before claims
+    pub paired-all : length entries ≤ k → Pairing P entries before claims
     paired-all l =
         all-paired h.only (claims-all (has_kind P.nodes is_in) (a_at P.nodes) claims.stamp entries claims.inputs k l h.ins)
         (claims-all (has_kind P.nodes is_out) (a_at P.nodes) claims.stamp entries claims.outputs k l h.outs)
@@ -157,7 +160,7 @@ module _ {P : Program} {entries : List ℕ} (x : CycleOf P entries) where
     pub paired_refused : k < length entries
         → is_free (has_kind P.nodes is_in) (a_at P.nodes) claims.inputs claims.stamp (get_or entries k 0)
         && is_free (has_kind P.nodes is_out) (a_at P.nodes) claims.outputs claims.stamp (get_or entries k 0) ≡ false
-        → channels_free P x.marks ≡ false
+        → channels_free P marks ≡ false
     paired_refused l =
         pick (is_free (has_kind P.nodes is_in) (a_at P.nodes) claims.inputs claims.stamp (get_or entries k 0)) refl
       where
@@ -172,7 +175,7 @@ module _ {P : Program} {entries : List ℕ} (x : CycleOf P entries) where
 
         pick : (b : Bool) → is_free (has_kind P.nodes is_in) (a_at P.nodes) claims.inputs claims.stamp entry ≡ b
             → b && is_free (has_kind P.nodes is_out) (a_at P.nodes) claims.outputs claims.stamp entry ≡ false
-            → channels_free P x.marks ≡ false
+            → channels_free P marks ≡ false
         pick true e t =
             let r = claims_refused (has_kind P.nodes is_out) (a_at P.nodes) claims.stamp entries k l claims.outputs h.outs
             (λ i. channel_fits x (out_here i)) t in
@@ -184,20 +187,20 @@ module _ {P : Program} {entries : List ℕ} (x : CycleOf P entries) where
 
   -- ---- which leaves wait
 
-  module _ (i : ℕ) (m : marked x.marks i ≡ true) {claims : CodeClaims} (p : Paired P x.marks claims) where
+  module _ (i : ℕ) (m : marked marks i ≡ true) {claims : CodeClaims} (p : Paired P entries claims) where
     pub in_waits : kind_at P.nodes i ≡ LEAF IN
-        → waits P x.marks i ≡ eqb (rank_in claims.outputs claims.stamp (a_at P.nodes i)) 0
+        → waits P marks i ≡ eqb (rank_in claims.outputs claims.stamp (a_at P.nodes i)) 0
     unfolding waits
     in_waits k =
-        rw (k, or-false) (empty_rank (marked_on P x.marks is_out (a_at P.nodes i))
+        rw (k, or-false) (empty_rank (marked_on P marks is_out (a_at P.nodes i))
         ∙ ap (λ (n : ℕ). eqb n 0)
         (sym (p.outputs (a_at P.nodes i) (channel_fits x (in_channel x i m (ap (leaf_test is_in) k))))))
 
     pub out_waits : kind_at P.nodes i ≡ LEAF OUT
-        → waits P x.marks i ≡ eqb (rank_in claims.inputs claims.stamp (a_at P.nodes i)) 0
+        → waits P marks i ≡ eqb (rank_in claims.inputs claims.stamp (a_at P.nodes i)) 0
     unfolding waits
     out_waits k =
-        rw k (empty_rank (marked_on P x.marks is_in (a_at P.nodes i))
+        rw k (empty_rank (marked_on P marks is_in (a_at P.nodes i))
         ∙ ap (λ (n : ℕ). eqb n 0)
         (sym (p.inputs (a_at P.nodes i) (channel_fits x (out_channel x i m (ap (leaf_test is_out) k))))))
 

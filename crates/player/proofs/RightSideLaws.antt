@@ -1,80 +1,85 @@
 -- The right sides, entry by entry: what one entry leaves, and what the entries so far come to.
-use Rattle.std.proofs.Common.{◌≡◌, ℕ, ◌+◌, ◌≤◌, ◌<◌, Bool, true, false, true≢false, List, length, get_or, set}
-use Rattle.std.proofs.Common.{refl, sym, ap, ◌∙◌, subst}
+use Rattle.std.proofs.Common.{◌≡◌, ℕ, ◌+◌, ◌≤◌, ◌<◌, Bool, true, false, true≢false, List, Ok, Err, length, get_or, set}
+use Rattle.std.proofs.Common.{refl, sym, ap, ◌∙◌, subst, length-set}
 use borrow.Author.Tests.{eqb-false}
 use Rattle.semantics.specs.Program.{Program, expr_count}
 use Rattle.semantics.specs.Completion.{stores}
+use Rattle.program.specs.declared.refusal.Refusal.TheVariants.{Stores as StoresClash}
 use Rattle.player.specs.declared.claims.Slots.{Slots}
 use Rattle.player.specs.declared.claims.Claims.{Claims as CodeClaims}
 use Rattle.player.specs.declared.memo.Memo.{Memo}
-use Rattle.player.specs.declared.stores.Store.{Store}
-use Rattle.player.specs.declared.stores.Stores.{Stores}
-use Rattle.player.specs.Memo.{Known, SameMoment, Worked, value_of}
+use Rattle.player.specs.declared.work.Work.{Work}
+use Rattle.player.specs.declared.scratch.Scratch.{Scratch}
+use Rattle.player.specs.Memo.{Worked, value_of}
 use Rattle.player.specs.Claims.{Claim, UpTo, Aged}
-use Rattle.player.specs.Channels.{PairedEntry}
-use Rattle.player.specs.Stores.{Storing, StoresAt, RightSides, SidesTo}
+use Rattle.player.specs.Channels.{marks_of, PairedEntry}
+use Rattle.player.specs.Stores.{Storing, StoresAt, WorkedMore, RightSides, SidesTo}
 use Rattle.player.proofs.RankLaws.{claim_old}
 use Rattle.player.proofs.StoreLaws.{target_fits, source_inside}
-use Rattle.player.proofs.MemoLaws.{same_values}
-use Rattle.player.proofs.SideLaws.{entry_at, with_writers}
-use Rattle.player.proofs.SideLaws.{sides_none, sides_room, sides_skip, sides_worked, not_apart, all_apart, all-pending}
+use Rattle.player.proofs.CycleLaws.{entry_at}
+use Rattle.player.proofs.SideLaws.{with_writers}
+use Rattle.player.proofs.SideLaws.{sides_none, sides_room, sides_skip, sides_worked, not_apart, all_apart, all-listed}
 
 -- The first k entries are done, and have n stores.
-pub record RightSidesTo {P : Program} {entries values : List ℕ} {before : Memo} {claims₀ : CodeClaims}
-    (x : Storing P entries values before claims₀) (memo : Memo) (claims : CodeClaims) (list : List Store) (n k : ℕ)
-    : Type 0 where
-  pub sides : SidesTo P x.cycle.marks entries values claims list n k
-  pub known : Known P.exprs memo
-  pub same : SameMoment before memo
-  pub aged : Aged claims claims₀.stamp
-  pub stamp : claims.stamp ≡ claims₀.stamp
+pub record RightSidesTo (P : Program) (entries : List ℕ) (before scratch : Scratch) (n k : ℕ) : Type 0 where
+  pub sides : SidesTo P entries before.work.memo.variables scratch.claims scratch.stores.list n k
+  pub more : WorkedMore P.exprs before.work scratch.work
+  pub size : length scratch.stores.list ≡ 1024
+  pub aged : Aged scratch.claims before.claims.stamp
+  pub stamp : scratch.claims.stamp ≡ before.claims.stamp
 
-module _ {P : Program} {entries values : List ℕ} {before : Memo} {claims₀ : CodeClaims}
-    (x : Storing P entries values before claims₀) where
-  pub right_none : (list : List Store) → RightSidesTo x before claims₀ list 0 0
-  right_none list = record {
-    sides = sides_none x.cycle values x.paired x.unclaimed;
-    known = x.known;
-    same = record { variables = refl; present = refl };
+module _ {P : Program} {entries : List ℕ} {before : Scratch}
+    (x : Storing P entries before.work.memo before.claims) where
+  pub right_none : length before.stores.list ≡ 1024 → RightSidesTo P entries before before 0 0
+  right_none size = record {
+    sides = sides_none x.cycle before.work.memo.variables x.paired x.unclaimed;
+    more = record { known = x.known; same = record { variables = refl; present = refl }; kept = refl };
+    size = size;
     aged = x.aged;
     stamp = refl;
   }
 
-  module _ {memo : Memo} {claims : CodeClaims} {list : List Store} {n k : ℕ}
-      (h : RightSidesTo x memo claims list n k) where
-    pub right-all : length entries ≤ k → k ≤ length entries → length list ≡ 1024
-        → RightSides P x.cycle.marks entries values before claims₀ true memo claims (record { list = list; count = n })
-    right-all l m size = record {
-      answer = sym (all_apart x.cycle values h.sides l);
-      known = h.known;
-      same = h.same;
-      pending = λ r. all-pending x.cycle values h.sides l m x.values_fit size;
-      aged = h.aged;
-      stamp = h.stamp;
-    }
+  module _ {scratch : Scratch} {n k : ℕ} (h : RightSidesTo P entries before scratch n k) where
+    abbrev variables : List ℕ
+    variables = before.work.memo.variables
+
+    pub right-all : length entries ≤ k → k ≤ length entries
+        → RightSides P entries before (Ok tt) (record scratch { stores = record { list = scratch.stores.list; count = n } })
+    right-all l m =
+        let apart = all_apart x.cycle variables h.sides l in
+        record {
+          answered = sym (rw apart);
+          started = λ a. record {
+            cycle = x.cycle;
+            paired = h.sides.paired;
+            listed = rw h.more.same.variables (all-listed x.cycle variables h.sides l m h.size);
+          };
+          more = h.more;
+          aged = h.aged;
+        }
 
     module _ (l : k < length entries) where
       abbrev entry : ℕ
       entry = get_or entries k 0
 
-      abbrev pub right_entry : PairedEntry P claims entry
+      abbrev pub right_entry : PairedEntry P scratch.claims entry
       right_entry = entry_at x.cycle h.sides.paired k l
 
       pub right_room : n < 1024
-      right_room = sides_room x.cycle values h.sides l
+      right_room = sides_room x.cycle variables h.sides l
 
       -- an entry that stores nothing
-      pub right_skip : stores P x.cycle.marks entry ≡ false → RightSidesTo x memo claims list n (k + 1)
+      pub right_skip : stores P (marks_of P entries) entry ≡ false → RightSidesTo P entries before scratch n (k + 1)
       right_skip s = record {
-        sides = sides_skip x.cycle values h.sides l s;
-        known = h.known;
-        same = h.same;
+        sides = sides_skip x.cycle variables h.sides l s;
+        more = h.more;
+        size = h.size;
         aged = h.aged;
         stamp = h.stamp;
       }
 
       -- an entry that stores to variable v the value of expression e
-      module _ {v e : ℕ} (s : StoresAt P x.cycle.marks entry v e) where
+      module _ {v e : ℕ} (s : StoresAt P (marks_of P entries) entry v e) where
         pub right_target : v < 256
         right_target = rw s.place (target_fits right_entry s.storing)
 
@@ -82,46 +87,57 @@ module _ {P : Program} {entries values : List ℕ} {before : Memo} {claims₀ : 
         right_expression = source_inside right_entry e s.right_side
 
         -- it has asked for the variable
-        module _ {writers : Slots} {free : Bool} (c : Claim claims.writers writers claims.stamp v entry free) where
+        module _ {writers : Slots} {free : Bool}
+            (c : Claim scratch.claims.writers writers scratch.claims.stamp v entry free) where
           abbrev claimed : CodeClaims
-          claimed = with_writers x.cycle claims writers
+          claimed = with_writers x.cycle scratch.claims writers
 
-          claimed_aged : Aged claimed claims₀.stamp
+          claimed_aged : Aged claimed before.claims.stamp
           claimed_aged = record {
             inputs = h.aged.inputs;
             outputs = h.aged.outputs;
             writers = subst (UpTo writers) h.stamp
-                (claim_old h.aged.writers.size right_target c (subst (UpTo claims.writers) (sym h.stamp) h.aged.writers));
+                (claim_old h.aged.writers.size right_target c
+                (subst (UpTo scratch.claims.writers) (sym h.stamp) h.aged.writers));
           }
 
           -- the variable was claimed already
-          pub right_refused : (stores : Stores) → free ≡ false
-              → RightSides P x.cycle.marks entries values before claims₀ false memo claimed stores
-          right_refused stores f = record {
-            answer = sym (not_apart x.cycle values h.sides l s (eqb-false _ 0 (sym c.was_free ∙ f)));
-            known = h.known;
-            same = h.same;
-            pending = λ r. absurd (true≢false (sym r));
-            aged = claimed_aged;
-            stamp = h.stamp;
-          }
+          pub right_refused : free ≡ false
+              → RightSides P entries before (Err StoresClash) (record scratch { claims = claimed })
+          right_refused f =
+              let clash = not_apart x.cycle variables h.sides l s (eqb-false _ 0 (sym c.was_free ∙ f)) in
+              record {
+                answered = sym (rw clash);
+                started = λ a. absurd (true≢false (sym a ∙ clash));
+                more = h.more;
+                aged = claimed_aged;
+              }
 
           -- its right side is worked and listed
-          pub right_more : {value : ℕ} {memo' : Memo} → free ≡ true → length list ≡ 1024
-              → Worked P.exprs memo memo' e value
-              → RightSidesTo x memo' claimed (set list n (record { variable = record { 0 = v }; value = value }))
+          pub right_more : {value : ℕ} {memo : Memo} → free ≡ true → Worked P.exprs scratch.work.memo memo e value
+              → RightSidesTo P entries before
+              (record {
+                work = record scratch.work { memo = memo };
+                claims = claimed;
+                stores = record scratch.stores {
+                  list = set scratch.stores.list n (record { variable = record { 0 = v }; value = value });
+                };
+              })
               (n + 1) (k + 1)
-          right_more {value} {memo'} f size w = record {
-            sides = sides_worked x.cycle values h.sides l s
-                (subst (λ (b : Bool). Claim claims.writers writers claims.stamp v entry b) f c) value
-                h.aged.writers.size size x.values_fit
-                (w.right ∙ ap (λ (vs : List ℕ). value_of P.exprs vs e) h.same.variables
-                ∙ ap (λ (table : List ℕ). get_or table e 0) (same_values P.exprs values before x.holds));
-            known = w.known;
-            same = record {
-              variables = w.same.variables ∙ h.same.variables;
-              present = w.same.present ∙ h.same.present;
+          right_more {value} {memo} f w = record {
+            sides = sides_worked x.cycle variables h.sides l s
+                (subst (λ (b : Bool). Claim scratch.claims.writers writers scratch.claims.stamp v entry b) f c) value
+                h.aged.writers.size h.size
+                (w.right ∙ ap (λ (vs : List ℕ). value_of P.exprs vs e) h.more.same.variables);
+            more = record {
+              known = w.known;
+              same = record {
+                variables = w.same.variables ∙ h.more.same.variables;
+                present = w.same.present ∙ h.more.same.present;
+              };
+              kept = ap (λ (work : Work). record work { memo = memo }) h.more.kept;
             };
+            size = length-set scratch.stores.list n _ ∙ h.size;
             aged = claimed_aged;
             stamp = h.stamp;
           }

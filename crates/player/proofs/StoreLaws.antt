@@ -13,13 +13,13 @@ use Rattle.semantics.specs.Program.Kind.{LEAF}
 use Rattle.semantics.specs.Program.Leaf.{ASG, IN}
 use Rattle.semantics.specs.Widths.{truncated}
 use Rattle.semantics.specs.State.{marked}
-use Rattle.semantics.specs.Completion.{is_asg, is_in, is_out, sent_by, store_value, marked_on, waits, stores, source}
+use Rattle.semantics.specs.Completion.{is_asg, is_in, is_out, sent_by, store_value, marked_on, waits, stores, target, source}
 use Rattle.semantics.specs.Completion.{store}
 use Rattle.semantics.proofs.Lists.Logic.{and_left, and_right, or_cases}
 use Rattle.player.specs.declared.claims.Claims.{Claims}
 use Rattle.player.specs.Claims.{rank_of, rank_in}
-use Rattle.player.specs.Channels.{PairedEntry, has_kind}
-use Rattle.player.specs.Stores.{target_at, StoresAt}
+use Rattle.player.specs.Channels.{marks_of, PairedEntry, has_kind}
+use Rattle.player.specs.Stores.{StoresAt}
 use Rattle.player.proofs.CycleLaws.{first_active, marked_node, in_fits, asg_variable, in_variable, variable_fits}
 use Rattle.player.proofs.CycleLaws.{asg_expression, out_expression}
 use Rattle.player.proofs.PairingLaws.{in_waits, never_waits}
@@ -27,17 +27,21 @@ use Rattle.player.proofs.PairingLaws.{in_waits, never_waits}
 -- ---- one node
 
 module _ {P : Program} {claims : Claims} {i : ℕ} (x : PairedEntry P claims i) where
+  -- the marks of its cycle
+  abbrev marks : List ℕ
+  marks = marks_of P x.entries
+
   -- the node stores
   abbrev entry_stores : Bool
-  entry_stores = stores P x.cycle.marks i
+  entry_stores = stores P marks i
 
   -- the expression that it stores
   abbrev entry_source : Option ℕ
-  entry_source = source P x.cycle.marks i
+  entry_source = source P marks i
 
-  pub asg_stores : kind_at P.nodes i ≡ LEAF ASG → StoresAt P x.cycle.marks i (a_at P.nodes i) (b_at P.nodes i)
+  pub asg_stores : kind_at P.nodes i ≡ LEAF ASG → StoresAt P marks i (a_at P.nodes i) (b_at P.nodes i)
   asg_stores k = record {
-    storing = rw (never_waits P x.cycle.marks i (λ e. cc) (λ e. cc), k);
+    storing = rw (never_waits P marks i (λ e. cc) (λ e. cc), k);
     place = rw k;
     right_side = rw k;
   }
@@ -46,31 +50,31 @@ module _ {P : Program} {claims : Claims} {i : ℕ} (x : PairedEntry P claims i) 
   in_kind : entry_stores ≡ true → has_kind P.nodes is_asg i ≡ false → has_kind P.nodes is_in i ≡ true
   in_kind h a =
       elim (or_cases (has_kind P.nodes is_asg i) (has_kind P.nodes is_in i)
-      (and_right (not (waits P x.cycle.marks i)) _ h))
+      (and_right (not (waits P marks i)) _ h))
       [ inl e ↦ absurd (true≢false (sym e ∙ a)) | inr e ↦ e ]
 
   -- ---- the variable that it stores to
 
-  pub target_inside : entry_stores ≡ true → target_at P.nodes i < P.variables
+  pub target_inside : entry_stores ≡ true → target P marks i < P.variables
   target_inside h = pick (has_kind P.nodes is_asg i) refl
     where
       pick : (b : Bool) → has_kind P.nodes is_asg i ≡ b → cond b (a_at P.nodes i) (b_at P.nodes i) < P.variables
       pick true e = asg_variable x.cycle i x.is_marked e
       pick false e = in_variable x.cycle i x.is_marked (in_kind h e)
 
-  pub target_fits : entry_stores ≡ true → target_at P.nodes i < 256
+  pub target_fits : entry_stores ≡ true → target P marks i < 256
   target_fits h = variable_fits x.cycle (target_inside h)
 
   -- ---- the expression that it stores
 
   -- the OUT marked on the channel of an IN
   abbrev sent : List ℕ
-  sent = marked_on P x.cycle.marks is_out (a_at P.nodes i)
+  sent = marked_on P marks is_out (a_at P.nodes i)
 
-  sender_out : {y : ℕ} {ys : List ℕ} → sent ≡ y ∷ ys → (marked x.cycle.marks y ≡ true)
+  sender_out : {y : ℕ} {ys : List ℕ} → sent ≡ y ∷ ys → (marked marks y ≡ true)
       × (has_kind P.nodes is_out y ≡ true)
   sender_out {y} {ys} e =
-      let h = first_active x.cycle.marks (λ j. has_kind P.nodes is_out j && eqb (a_at P.nodes j) (a_at P.nodes i)) y ys
+      let h = first_active marks (λ j. has_kind P.nodes is_out j && eqb (a_at P.nodes j) (a_at P.nodes i)) y ys
       e in
       (h.0, and_left _ _ h.1)
 
@@ -78,11 +82,11 @@ module _ {P : Program} {claims : Claims} {i : ℕ} (x : PairedEntry P claims i) 
     abbrev rank : ℕ
     rank = rank_in claims.outputs claims.stamp (a_at P.nodes i)
 
-    in_stores : stores P x.cycle.marks i ≡ not (eqb rank 0)
+    in_stores : stores P marks i ≡ not (eqb rank 0)
     in_stores = rw (in_waits x.cycle i x.is_marked x.paired k, k) (and-true _)
 
     -- no OUT has claimed the channel
-    pub in_alone : rank ≡ 0 → stores P x.cycle.marks i ≡ false
+    pub in_alone : rank ≡ 0 → stores P marks i ≡ false
     in_alone r = in_stores ∙ rw r
 
     -- node j has
@@ -98,7 +102,7 @@ module _ {P : Program} {claims : Claims} {i : ℕ} (x : PairedEntry P claims i) 
       pub sender_node : j < node_count P.nodes
       sender_node = marked_node x.cycle j (sender_out sent_first.1).0
 
-      pub in_stored : StoresAt P x.cycle.marks i (b_at P.nodes i) (b_at P.nodes j)
+      pub in_stored : StoresAt P marks i (b_at P.nodes i) (b_at P.nodes j)
       in_stored = record {
         storing = in_stores ∙ rw (r, eqb-suc-zero j);
         place = rw k;
@@ -124,12 +128,12 @@ module _ {P : Program} {claims : Claims} {i : ℕ} (x : PairedEntry P claims i) 
   -- ---- its store
 
   module _ (table values : List ℕ) where
-    pub stored : {v e : ℕ} → StoresAt P x.cycle.marks i v e
-        → store P x.cycle.marks table values i ≡ set values v (truncated P.widths v (get_or table e 0))
+    pub stored : {v e : ℕ} → StoresAt P marks i v e
+        → store P marks table values i ≡ set values v (truncated P.widths v (get_or table e 0))
     unfolding store
     stored s =
-        rw (s.storing, s.place) (ap (store_value P.widths table values (target_at P.nodes i)) s.right_side)
+        rw (s.storing, s.place) (ap (store_value P.widths table values (target P marks i)) s.right_side)
 
-    pub not_stored : entry_stores ≡ false → store P x.cycle.marks table values i ≡ values
+    pub not_stored : entry_stores ≡ false → store P marks table values i ≡ values
     unfolding store
     not_stored s = rw s

@@ -8,10 +8,12 @@ use borrow.Author.Tests.{eqb-true, eqb-false, not-false}
 use Rattle.semantics.proofs.Lists.Logic.{or_left, or_right, true_or_false}
 use Rattle.player.specs.declared.stores.Store.{Store}
 use Rattle.player.specs.declared.stores.Stores.{Stores}
+use Rattle.player.specs.declared.memo.Memo.{Memo}
 use Rattle.player.specs.declared.work.Work.{Work}
-use Rattle.player.specs.Memo.{Holds}
+use Rattle.player.specs.Memo.{Known, Unworked, Holds}
 use Rattle.player.specs.Work.{masked_by}
 use Rattle.player.specs.Stores.{put_first, listed_store, variable_at, comes_to, taken_back, HeldFit, Stored}
+use Rattle.player.proofs.MemoLaws.{known_unworked, known_rewritten}
 use Rattle.player.proofs.HeldLaws.{no_store, HoldSame, put_same, back_same, written_other, written_before, written_here}
 
 -- two lists that are read alike, of which one element is written
@@ -151,35 +153,60 @@ module _ {old : List ℕ} {stores : Stores} (fit : HeldFit old stores) where
         let most = fit.values_fit in
         (inside, omega arith)
 
-    -- all are made, and the others stay
-    pub stored-all : (rest : List Store) → length rest ≡ length stores.list - stores.count → length listed_in ≤ n
-        → Stored old before stores changed values work (record { list = list ++ rest; count = stores.count })
-    stored-all rest more l =
-        let within = h.within in
-        let all : n ≡ stores.count = omega (arith, listed-length) in
-        let front : length list ≡ stores.count = h.as_many ∙ listed-length in
-        let here : HoldSame list (list ++ rest) stores.count =
-        λ j m. get_or_append_left list rest no_store j (omega arith) in
-        record {
-          right = h.right
-              ∙ ap (λ (i : ℕ). put_first (masked_by before) listed_in i old) all
-              ∙ put_same stores.list listed_in (masked_by before) stores.count old listed_same;
-          same_length = h.values_size;
-          variables = h.variables;
-          kept = h.kept;
-          size = h.size;
-          same = h.same;
-          fit = record {
-            size = let few = fit.few in let size = fit.size in omega (arith, length-append list rest);
-            few = fit.few;
-            values_fit = let most = fit.values_fit in let sizes = h.values_size in omega arith;
-            targets = λ j m.
-                subst (λ (s : Store). s.variable.0 < length values) (sym (here j m)) (target_inside j m);
-          };
-          as_many = refl;
-          back = back_same list (list ++ rest) stores.count values here
-              ∙ ap (λ (i : ℕ). taken_back list i values) (sym all) ∙ h.back;
-        }
+    -- the variables alone are written
+    memo_after : work.memo ≡ record before.memo { variables = work.memo.variables }
+    memo_after = ap (λ (w : Work). w.memo) h.kept
+
+    pub stored_past : ((e : ℕ) → e < 1024 → get_or before.memo.moments e 0 ≤ before.memo.present)
+        → (e : ℕ) → e < 1024 → get_or work.memo.moments e 0 ≤ work.memo.present
+    stored_past past =
+        subst (λ (m : Memo). (e : ℕ) → e < 1024 → get_or m.moments e 0 ≤ m.present) (sym memo_after) past
+
+    -- all are made, and the others of the longer list stay
+    module _ (rest : List Store) (more : length rest ≡ length stores.list - stores.count) (l : length listed_in ≤ n) where
+      abbrev made : Stores
+      made = record { list = list ++ rest; count = stores.count }
+
+      stored-all : {memo : Memo} → Holds values memo → ((exprs : List ℕ) → Known exprs before.memo → Known exprs memo)
+          → Stored old before stores values (record work { memo = memo }) made
+      stored-all {memo} holds known =
+          let within = h.within in
+          let all : n ≡ stores.count = omega (arith, listed-length) in
+          let front : length list ≡ stores.count = h.as_many ∙ listed-length in
+          let here : HoldSame list (list ++ rest) stores.count =
+          λ j m. get_or_append_left list rest no_store j (omega arith) in
+          record {
+            right = h.right
+                ∙ ap (λ (i : ℕ). put_first (masked_by before) listed_in i old) all
+                ∙ put_same stores.list listed_in (masked_by before) stores.count old listed_same;
+            holds = holds;
+            known = known;
+            kept = ap (λ (w : Work). record w { memo = memo }) h.kept;
+            fit = record {
+              size = let few = fit.few in let size = fit.size in omega (arith, length-append list rest);
+              few = fit.few;
+              values_fit = let most = fit.values_fit in let sizes = h.values_size in omega arith;
+              targets = λ j m.
+                  subst (λ (s : Store). s.variable.0 < length values) (sym (here j m)) (target_inside j m);
+            };
+            back = back_same list (list ++ rest) stores.count values here
+                ∙ ap (λ (i : ℕ). taken_back list i values) (sym all) ∙ h.back;
+          }
+
+      -- a new moment follows
+      pub stored_moment : {memo : Memo} → Unworked work.memo memo
+          → Stored old before stores values (record work { memo = memo }) made
+      stored_moment {memo} u =
+          stored-all (λ v. ap (λ (vs : List ℕ). get_or vs v 0) u.variables ∙ h.variables v)
+          (λ exprs k. known_unworked exprs work.memo memo u)
+
+      -- no value has changed
+      pub stored_same : Holds old before.memo → changed ≡ false → Stored old before stores values work made
+      stored_same holds no_change =
+          stored-all h.variables (λ exprs k.
+          subst (Known exprs) (sym memo_after)
+          (known_rewritten exprs before.memo work.memo.variables h.size
+          (λ v. h.variables v ∙ ap (λ (vs : List ℕ). get_or vs v 0) (h.same no_change) ∙ sym (holds v)) k))
 
 -- ---- the stores are taken back, the last first
 

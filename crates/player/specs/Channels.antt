@@ -1,5 +1,5 @@
 -- What the code of a cycle knows once question 7 is answered yes, and what it claims for the channels.
-use Rattle.std.specs.Prelude.{◌≡◌, Bool, true, false, ◌&&◌, ◌⊎◌, List, ℕ, ◌<◌, length, drop, Result, Ok, Err, MatchResult, ⊤}
+use Rattle.std.specs.Prelude.{◌≡◌, Bool, true, false, ◌&&◌, ◌⊎◌, List, ℕ, ◌<◌, length, drop, replicate, Result, Ok, Err, MatchResult, ⊤}
 use Rattle.semantics.specs.Program.{Program, Leaf, node_count, kind_at, a_at, leaf_test}
 use Rattle.semantics.specs.State.{marked}
 use Rattle.semantics.specs.Completion.{is_in, is_out, marked_on, channels_free}
@@ -7,15 +7,17 @@ use Rattle.semantics.specs.Cycle.{are_active}
 use Rattle.semantics.specs.Facts.{Accepted}
 use Rattle.player.specs.declared.claims.Slots.{Slots}
 use Rattle.player.specs.declared.claims.Claims.{Claims}
-use Rattle.player.specs.Entries.{crossable, CrossedOut}
+use Rattle.player.specs.Entries.{crossable, set_all, CrossedOut}
 use Rattle.player.specs.Claims.{rank_of, rank_in, is_free, Claimed, Unclaimed, Aged}
 
--- A cycle of an accepted program, whose active statements are these entries: the marks at its start.
+-- The marks of these entries and of no other node. With them a cycle starts whose active statements they are.
+unfoldable pub marks_of : Program → List ℕ → List ℕ
+marks_of P entries = set_all 1 (replicate (node_count P.nodes) 0) entries
+
+-- A cycle of an accepted program, whose active statements are these entries.
 pub record CycleOf (P : Program) (entries : List ℕ) : Type 0 where
-  pub marks : List ℕ
   pub accepted : Accepted P
-  pub marks_fit : length marks ≡ node_count P.nodes
-  pub entries_active : are_active marks entries ≡ true
+  pub entries_active : are_active (marks_of P entries) entries ≡ true
 
 -- Node i is a leaf of that kind.
 abbrev pub has_kind : List ℕ → (Leaf → Bool) → ℕ → Bool
@@ -25,16 +27,16 @@ has_kind nodes f i = leaf_test f (kind_at nodes i)
 abbrev pub Ranked : Program → List ℕ → (Leaf → Bool) → Slots → ℕ → Type 0
 Ranked P marks f s stamp = (c : ℕ) → c < 256 → rank_in s stamp c ≡ rank_of (marked_on P marks f c)
 
-pub record Paired (P : Program) (marks : List ℕ) (claims : Claims) : Type 0 where
+pub record Paired (P : Program) (entries : List ℕ) (claims : Claims) : Type 0 where
   pub inputs_size : length claims.inputs.slots ≡ 256
   pub outputs_size : length claims.outputs.slots ≡ 256
-  pub inputs : Ranked P marks is_in claims.inputs claims.stamp
-  pub outputs : Ranked P marks is_out claims.outputs claims.stamp
+  pub inputs : Ranked P (marks_of P entries) is_in claims.inputs claims.stamp
+  pub outputs : Ranked P (marks_of P entries) is_out claims.outputs claims.stamp
 
 -- Question 8 is answered yes, and the channels are claimed.
-pub record Pairing (P : Program) (marks : List ℕ) (before claims : Claims) : Type 0 where
-  pub free : channels_free P marks ≡ true
-  pub paired : Paired P marks claims
+pub record Pairing (P : Program) (entries : List ℕ) (before claims : Claims) : Type 0 where
+  pub free : channels_free P (marks_of P entries) ≡ true
+  pub paired : Paired P entries claims
   pub unwritten : Unclaimed claims.writers claims.stamp
   pub aged : Aged claims before.stamp
   pub stamp : claims.stamp ≡ before.stamp
@@ -47,22 +49,23 @@ passed_of entries (Err k) = k
 -- Entry k has no mark any more, or finds its channel claimed.
 pub record StoppedAt (P : Program) (entries marks : List ℕ) (k : ℕ) : Type 0 where
   pub more : k < length entries
-  pub why : (crossable marks (drop k entries) ≡ 0) ⊎ ((x : CycleOf P entries) → channels_free P x.marks ≡ false)
+  pub why : (crossable marks (drop k entries) ≡ 0) ⊎ (CycleOf P entries → channels_free P (marks_of P entries) ≡ false)
 
 -- The entries up to the first that has no mark any more, or finds its channel claimed, are crossed out and have claimed their
 -- channels. The answer is how many, where they are not all.
 pub record CrossedTo (P : Program) (entries marks₀ : List ℕ) (before : Claims) (r : Result ⊤ ℕ) (marks : List ℕ)
     (claims : Claims) : Type 0 where
   pub out : CrossedOut entries marks₀ (passed_of entries r) marks
-  pub answer : MatchResult r (λ _. (x : CycleOf P entries) → Pairing P x.marks before claims)
+  pub answer : MatchResult r (λ _. CycleOf P entries → Pairing P entries before claims)
       (λ k. StoppedAt P entries marks k)
 
 -- Node i is marked in a cycle whose channels are paired.
 pub record PairedEntry (P : Program) (claims : Claims) (i : ℕ) : Type 0 where
   pub entries : List ℕ
   pub cycle : CycleOf P entries
-  pub paired : Paired P cycle.marks claims
-  pub is_marked : marked cycle.marks i ≡ true
+  pub paired : Paired P entries claims
+  pub within : i < node_count P.nodes
+  pub is_marked : marked (marks_of P entries) i ≡ true
 
 -- Node i has claimed its channel, for input if it is an IN and for output if it is an OUT, where it was free; what was
 -- written is a stamp of the cycle and the node beside it.

@@ -21,7 +21,7 @@ rank_in s stamp slot = cond (eqb (slot_at s slot).stamp stamp) (suc (slot_at s s
 
 -- The node that claimed a slot in the cycle of a stamp, or none.
 abbrev pub IsClaimant : Slots → ℕ → ℕ → Option ℕ → Type 0
-IsClaimant s stamp slot = λ r. MatchOption r (rank_in s stamp slot ≡ 0) (λ node. rank_in s stamp slot ≡ suc node)
+IsClaimant s stamp slot r = MatchOption r (rank_in s stamp slot ≡ 0) (λ node. rank_in s stamp slot ≡ suc node)
 
 -- No slot has a stamp above n.
 pub record UpTo (s : Slots) (n : ℕ) : Type 0 where

@@ -1,24 +1,24 @@
 -- One cycle in code: from an accepted program and a state that questions 5 and 6 let by, to the rules' outcome.
-use Rattle.std.specs.Prelude.{◌≡◌, true, false, cond, List, [], ◌∷◌, ◌≢◌, ℕ, length, replicate, Result, ⊤}
-use Rattle.semantics.specs.Program.{Program}
+use Rattle.std.specs.Prelude.{◌≡◌, Bool, true, false, cond, List, [], ◌∷◌, ◌≢◌, ℕ, length, replicate, Result, ⊤}
+use Rattle.semantics.specs.Program.{Program, node_count}
 use Rattle.semantics.specs.Questions.{Question, ask, first_no}
 use Rattle.semantics.specs.Check.{check_number}
-use Rattle.semantics.specs.State.{State, mark_count, well_formed}
+use Rattle.semantics.specs.State.{State, mark_count, marks_are_bits}
 use Rattle.semantics.specs.Completion.{channels_free, targets_apart}
 use Rattle.semantics.specs.Walk.{Walk}
-use Rattle.semantics.specs.Cycle.{are_active, answered, new_values, walked, cycle}
+use Rattle.semantics.specs.Cycle.{are_active, answered, new_values, visit, walked, cycle}
 use Rattle.semantics.specs.Run.{next_entries}
-use Rattle.semantics.specs.Facts.{Accepted, LengthsFit, Ready}
+use Rattle.semantics.specs.Facts.{Accepted, Ready}
 use Rattle.program.specs.declared.refusal.Refusal.{Refusal}
 use Rattle.program.specs.Answer.{number_of, item_of}
-use Rattle.player.specs.declared.claims.Claims.{Claims}
 use Rattle.player.specs.declared.work.Work.{Work}
-use Rattle.player.specs.declared.stores.Stores.{Stores}
+use Rattle.player.specs.declared.scratch.Scratch.{Scratch}
 use Rattle.player.specs.Begin.{state_of}
 use Rattle.player.specs.Memo.{Known, Holds}
 use Rattle.player.specs.Work.{Climbing, Masks}
 use Rattle.player.specs.Claims.{Aged}
-use Rattle.player.specs.Stores.{HeldFit, Pending, taken_back}
+use Rattle.player.specs.Channels.{marks_of}
+use Rattle.player.specs.Stores.{Started, WorkedMore}
 
 pub record Runnable (P : Program) (s : State) : Type 0 where
   pub accepted : check_number P ≡ 0
@@ -38,31 +38,21 @@ pub record CycleAnswer (P : Program) (s : State) (book : List ℕ) (number : ℕ
   pub outcome : cycle P s (next_entries s book) ≡ answered number s'
   pub kept : number ≢ 0 → s' ≡ s
 
--- A cycle from a state by these entries, as many as there are marks.
-pub record CycleFrom (P : Program) (s : State) (entries : List ℕ) : Type 0 where
+-- A cycle of an accepted program from these marks by these entries, as many as there are marks.
+pub record CycleFrom (P : Program) (marks entries : List ℕ) : Type 0 where
   pub accepted : Accepted P
-  pub fit : LengthsFit P s
-  pub formed : well_formed P s ≡ true
-  pub as_many : length entries ≡ mark_count s.marks
+  pub marks_fit : length marks ≡ node_count P.nodes
+  pub bits : marks_are_bits marks ≡ true
+  pub as_many : length entries ≡ mark_count marks
 
 -- Questions 7 to 9.
 abbrev pub first_questions : Program → List ℕ → List ℕ → List Question
 first_questions P marks entries =
     ask 7 (are_active marks entries) ∷ ask 8 (channels_free P marks) ∷ ask 9 (targets_apart P marks) ∷ []
 
--- Questions 7 to 9 are answered yes, and the right sides are worked.
-pub record Started (P : Program) (s : State) (entries : List ℕ) (work : Work) (claims : Claims) (stores : Stores) : Type 0
-  where
-    pub from : CycleFrom P s entries
-    pub active : are_active s.marks entries ≡ true
-    pub free : channels_free P s.marks ≡ true
-    pub apart : targets_apart P s.marks ≡ true
-    pub pending : Pending P s.marks entries s.values claims stores
-    pub known : Known P.exprs work.memo
-    pub holds : Holds s.values work.memo
-    pub climbing : Climbing P.nodes work
-    pub masks : Masks P.widths work
-    pub unmet : work.looped ≡ false
+-- A visit in a cycle by these entries. Of the state at its start a visit reads the marks alone.
+abbrev pub visit_in : Program → List ℕ → (ℕ → Bool) → Walk → ℕ → Walk
+visit_in P entries = visit P (state_of [] (marks_of P entries) [])
 
 -- What the walks of a cycle leave.
 abbrev pub walk_after : Program → State → List ℕ → Walk
@@ -78,33 +68,32 @@ pub record Advanced (P : Program) (s : State) (entries : List ℕ) (number : ℕ
 
 -- ---- what the functions of a cycle promise; no item comes with questions 7 to 10
 
-pub record AskAnswer (P : Program) (s : State) (entries : List ℕ) (stamp : ℕ) (answer : Result ⊤ Refusal) (marks' : List ℕ)
-    (work : Work) (claims : Claims) (stores : Stores) : Type 0 where
-  pub asked : number_of answer ≡ first_no (first_questions P s.marks entries)
-  pub no_item : item_of answer ≡ 0
-  pub kept : number_of answer ≢ 0 → marks' ≡ s.marks
-  pub cleared : number_of answer ≡ 0 → marks' ≡ replicate (length s.marks) 0
-  pub started : number_of answer ≡ 0 → Started P s entries work claims stores
-  pub aged : number_of answer ≡ 0 → Aged claims stamp
-
-pub record StoreAnswer (P : Program) (s : State) (entries : List ℕ) (before : Work) (values' : List ℕ) (work : Work)
-    (stores : Stores) : Type 0 where
-  pub right : values' ≡ new_values P s entries
-  pub known : Known P.exprs work.memo
-  pub holds : Holds values' work.memo
-  pub kept : work ≡ record before { memo = work.memo }
-  pub fit : HeldFit values' stores
-  pub back : taken_back stores.list stores.count values' ≡ s.values
-
-pub record AdvanceAnswer (P : Program) (s : State) (entries : List ℕ) (answer : Result ⊤ Refusal) (s' : State) (work : Work)
+-- Questions 7 to 9 are answered yes: the marks, now cleared, are those of the entries, and the right sides are worked.
+pub record AllYes (P : Program) (marks entries : List ℕ) (before : Scratch) (marks' : List ℕ) (scratch : Scratch)
     : Type 0 where
+  pub are_marked : marks ≡ marks_of P entries
+  pub cleared : marks' ≡ replicate (length marks) 0
+  pub started : Started P entries scratch
+  pub more : WorkedMore P.exprs before.work scratch.work
+  pub aged : Aged scratch.claims before.claims.stamp
+
+pub record AskAnswer (P : Program) (marks entries : List ℕ) (before : Scratch) (answer : Result ⊤ Refusal)
+    (marks' : List ℕ) (scratch : Scratch) : Type 0 where
+  pub asked : number_of answer ≡ first_no (first_questions P marks entries)
+  pub no_item : item_of answer ≡ 0
+  pub kept : number_of answer ≢ 0 → marks' ≡ marks
+  pub yes : number_of answer ≡ 0 → AllYes P marks entries before marks' scratch
+
+pub record AdvanceAnswer (P : Program) (s : State) (entries : List ℕ) (before : Scratch) (answer : Result ⊤ Refusal)
+    (s' : State) (scratch : Scratch) : Type 0 where
   pub advanced : Advanced P s entries (number_of answer) s'
   pub no_item : item_of answer ≡ 0
-  pub carried : number_of answer ≡ 0 → Carried P s'.values s'.marks work
+  pub carried : number_of answer ≡ 0 → Carried P s'.values s'.marks scratch.work
+  pub claims_kept : scratch.claims ≡ before.claims
 
-pub record WorkedCycle (P : Program) (s : State) (book : List ℕ) (stamp : ℕ) (r : Result ⊤ Refusal) (s' : State)
-    (work : Work) (claims : Claims) : Type 0 where
+pub record WorkedCycle (P : Program) (s : State) (book : List ℕ) (before : Scratch) (r : Result ⊤ Refusal) (s' : State)
+    (scratch : Scratch) : Type 0 where
   pub answer : CycleAnswer P s book (number_of r) s'
   pub no_item : item_of r ≡ 0
-  pub carried : number_of r ≡ 0 → Carried P s'.values s'.marks work
-  pub aged : number_of r ≡ 0 → Aged claims stamp
+  pub carried : number_of r ≡ 0 → Carried P s'.values s'.marks scratch.work
+  pub aged : number_of r ≡ 0 → Aged scratch.claims before.claims.stamp

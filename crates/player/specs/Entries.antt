@@ -13,6 +13,10 @@ crossable marks (e ∷ es) = let more = suc (crossable (set marks e 0) es) in co
 abbrev pub set_all : ℕ → List ℕ → List ℕ → List ℕ
 set_all word marks entries = foldl (λ (m : List ℕ) (e : ℕ). set m e word) marks entries
 
+-- The marks before the first r entries were crossed out of them.
+abbrev pub uncrossed : List ℕ → ℕ → List ℕ → List ℕ
+uncrossed entries r marks = set_all 1 marks (take r entries)
+
 -- The first r entries are crossed out, and could be.
 pub record CrossedOut (entries marks₀ : List ℕ) (r : ℕ) (marks : List ℕ) : Type 0 where
   pub within : r ≤ length entries

@@ -1,42 +1,38 @@
 -- The stores of a cycle in code: what is claimed and worked before any is made.
-use Rattle.std.specs.Prelude.{◌≡◌, Bool, true, false, cond, ℕ, zero, suc, ◌≤◌, ◌<◌, length, get_or, set, take, drop}
+use Rattle.std.specs.Prelude.{◌≡◌, true, ℕ, zero, suc, ◌≤◌, ◌<◌, length, get_or, set, take, drop, Result, ⊤}
 use mathlib.Core.List.{List, foldl}
 use Rattle.std.proofs.Math.Option.{some}
-use Rattle.semantics.specs.Program.{Program, a_at, b_at}
+use Rattle.semantics.specs.Program.{Program}
 use Rattle.semantics.specs.Widths.{truncated}
 use Rattle.semantics.specs.Expressions.{expr_values}
-use Rattle.semantics.specs.Completion.{is_asg, stores, source, targets_apart, store}
-use Rattle.semantics.specs.Cycle.{new_values}
+use Rattle.semantics.specs.Completion.{stores, target, source, targets_apart, store}
+use Rattle.program.specs.declared.refusal.Refusal.{Refusal}
+use Rattle.program.specs.declared.refusal.Refusal.TheVariants.{Stores as StoresClash}
+use Rattle.program.specs.Answer.{answer_to}
 use Rattle.player.specs.declared.claims.Claims.{Claims as CodeClaims}
 use Rattle.player.specs.declared.memo.Memo.{Memo}
 use Rattle.player.specs.declared.work.Work.{Work}
 use Rattle.player.specs.declared.stores.Store.{Store}
 use Rattle.player.specs.declared.stores.Stores.{Stores}
-use Rattle.player.specs.Begin.{state_of}
+use Rattle.player.specs.declared.scratch.Scratch.{Scratch}
 use Rattle.player.specs.Memo.{Known, SameMoment, Holds}
 use Rattle.player.specs.Work.{masked_by}
 use Rattle.player.specs.Claims.{Claims, Unclaimed, Aged}
-use Rattle.player.specs.Channels.{CycleOf, Paired, has_kind}
-
--- The variable of an ASG, and else that of an IN.
-abbrev pub target_at : List ℕ → ℕ → ℕ
-target_at nodes i = cond (has_kind nodes is_asg i) (a_at nodes i) (b_at nodes i)
+use Rattle.player.specs.Channels.{marks_of, CycleOf, Paired}
 
 -- Node i stores to the variable the value of the expression.
 pub record StoresAt (P : Program) (marks : List ℕ) (i variable expression : ℕ) : Type 0 where
   pub storing : stores P marks i ≡ true
-  pub place : variable ≡ target_at P.nodes i
+  pub place : variable ≡ target P marks i
   pub right_side : source P marks i ≡ some expression
 
--- A cycle from these values whose channels are paired, and in which no variable is claimed yet.
-pub record Storing (P : Program) (entries values : List ℕ) (memo : Memo) (claims : CodeClaims) : Type 0 where
+-- A cycle whose channels are paired, and in which no variable is claimed yet.
+pub record Storing (P : Program) (entries : List ℕ) (memo : Memo) (claims : CodeClaims) : Type 0 where
   pub cycle : CycleOf P entries
-  pub values_fit : length values ≡ P.variables
-  pub paired : Paired P cycle.marks claims
+  pub paired : Paired P entries claims
   pub unclaimed : Unclaimed claims.writers claims.stamp
   pub aged : Aged claims claims.stamp
   pub known : Known P.exprs memo
-  pub holds : Holds values memo
 
 -- ---- the stores that are listed
 
@@ -72,48 +68,57 @@ pub record HeldFit (values : List ℕ) (stores : Stores) : Type 0 where
   pub values_fit : length values ≤ 256
   pub targets : (j : ℕ) → j < stores.count → variable_at stores.list j < length values
 
--- All stores are claimed and worked: made, they give the rules' new values.
-pub record Pending (P : Program) (marks entries values : List ℕ) (claims : CodeClaims) (stores : Stores) : Type 0 where
-  pub paired : Paired P marks claims
-  pub fit : HeldFit values stores
-  pub right : (counts : List ℕ) → put_first (truncated P.widths) stores.list stores.count values
-      ≡ new_values P (state_of values marks counts) entries
+-- The store of an entry in the rules, with the right sides worked in the values of these variables.
+abbrev pub store_from : Program → List ℕ → List ℕ → List ℕ → ℕ → List ℕ
+store_from P entries variables = store P (marks_of P entries) (expr_values P.exprs variables)
 
--- The answer to question 9, with the right sides where it is yes. `before` and `claims₀` are what stood at the start.
-pub record RightSides (P : Program) (marks entries values : List ℕ) (before : Memo) (claims₀ : CodeClaims) (apart : Bool)
-    (memo : Memo) (claims : CodeClaims) (stores : Stores) : Type 0 where
-  pub answer : apart ≡ targets_apart P marks
-  pub known : Known P.exprs memo
-  pub same : SameMoment before memo
-  pub pending : apart ≡ true → Pending P marks entries values claims stores
-  pub aged : Aged claims claims₀.stamp
-  pub stamp : claims.stamp ≡ claims₀.stamp
+-- The stores of these entries are worked and listed: made in any values, they are the stores of the rules.
+pub record Listed (P : Program) (entries variables : List ℕ) (stores : Stores) : Type 0 where
+  pub size : length stores.list ≡ 1024
+  pub few : stores.count ≤ 1024
+  pub targets : (j : ℕ) → j < stores.count → variable_at stores.list j < P.variables
+  pub right : (values : List ℕ) → put_first (truncated P.widths) stores.list stores.count values
+      ≡ foldl (store_from P entries variables) values entries
+
+-- Questions 7 to 9 are answered yes, and the right sides are worked.
+pub record Started (P : Program) (entries : List ℕ) (scratch : Scratch) : Type 0 where
+  pub cycle : CycleOf P entries
+  pub paired : Paired P entries scratch.claims
+  pub listed : Listed P entries scratch.work.memo.variables scratch.stores
+
+-- Some more expressions are worked, and nothing else has changed.
+pub record WorkedMore (exprs : List ℕ) (before work : Work) : Type 0 where
+  pub known : Known exprs work.memo
+  pub same : SameMoment before.memo work.memo
+  pub kept : work ≡ record before { memo = work.memo }
+
+-- The answer to question 9, with the right sides where it is yes.
+pub record RightSides (P : Program) (entries : List ℕ) (before : Scratch) (answer : Result ⊤ Refusal)
+    (scratch : Scratch) : Type 0 where
+  pub answered : answer ≡ answer_to (targets_apart P (marks_of P entries)) StoresClash
+  pub started : targets_apart P (marks_of P entries) ≡ true → Started P entries scratch
+  pub more : WorkedMore P.exprs before.work scratch.work
+  pub aged : Aged scratch.claims before.claims.stamp
 
 -- The stores are made, in the values and in what `work` has of them, and the old values are held.
-pub record Stored (values : List ℕ) (before : Work) (stores₀ : Stores) (changed : Bool) (values' : List ℕ) (work : Work)
+pub record Stored (values : List ℕ) (before : Work) (stores₀ : Stores) (values' : List ℕ) (work : Work)
     (stores : Stores) : Type 0 where
   pub right : values' ≡ put_first (masked_by before) stores₀.list stores₀.count values
-  pub same_length : length values' ≡ length values
-  pub variables : Holds values' work.memo
-  pub kept : work ≡ record before { memo = record before.memo { variables = work.memo.variables } }
-  pub size : length work.memo.variables ≡ 256
-  pub same : changed ≡ false → values' ≡ values
+  pub holds : Holds values' work.memo
+  pub known : (exprs : List ℕ) → Known exprs before.memo → Known exprs work.memo
+  pub kept : work ≡ record before { memo = work.memo }
   pub fit : HeldFit values' stores
-  pub as_many : stores.count ≡ stores₀.count
   pub back : taken_back stores.list stores.count values' ≡ values
 
 -- ---- entry by entry
 
--- The store of an entry in the rules, with the right sides worked in these values.
-abbrev pub store_from : Program → List ℕ → List ℕ → List ℕ → ℕ → List ℕ
-store_from P marks values = store P marks (expr_values P.exprs values)
-
 -- The first k entries have claimed their variables, and their n stores are worked and listed.
-pub record SidesTo (P : Program) (marks entries values : List ℕ) (claims : CodeClaims) (list : List Store) (n k : ℕ)
+pub record SidesTo (P : Program) (entries variables : List ℕ) (claims : CodeClaims) (list : List Store) (n k : ℕ)
     : Type 0 where
-  pub paired : Paired P marks claims
-  pub claimed : Claims (stores P marks) (target_at P.nodes) (take k entries) claims.writers claims.stamp
+  pub paired : Paired P entries claims
+  pub claimed : Claims (stores P (marks_of P entries)) (target P (marks_of P entries)) (take k entries) claims.writers
+      claims.stamp
   pub few : n ≤ k
-  pub targets : (j : ℕ) → j < n → variable_at list j < length values
-  pub rest : foldl (store_from P marks values) values entries
-      ≡ foldl (store_from P marks values) (put_first (truncated P.widths) list n values) (drop k entries)
+  pub targets : (j : ℕ) → j < n → variable_at list j < P.variables
+  pub rest : (values : List ℕ) → foldl (store_from P entries variables) values entries
+      ≡ foldl (store_from P entries variables) (put_first (truncated P.widths) list n values) (drop k entries)

@@ -4,7 +4,7 @@ ghost use Rattle.semantics.specs.Program.{node_count, a_at};
 ghost use Rattle.semantics.specs.Completion.{waits};
 ghost use Rattle.program.specs.Accepted.{accepted_in};
 ghost use Rattle.player.specs.Claims.{Fresh};
-ghost use Rattle.player.specs.Channels.{PairedEntry, EntryPairing, CrossedTo};
+ghost use Rattle.player.specs.Channels.{marks_of, PairedEntry, EntryPairing, CrossedTo};
 
 use crate::claims::Claims;
 use crate::{entries, records};
@@ -57,10 +57,12 @@ pub fn pair_entries(
 }
 
 // Whether node i, a marked one, waits: an IN with no OUT marked on its channel, or an OUT with no IN.
-#[tactic(auto, using(crate::proofs::CycleLaws::entry_node, crate::proofs::PairingLaws::never_waits))]
+// x has the entries of the cycle, which are not handed over: the claims tell all that is asked.
+#[tactic(auto, using(crate::proofs::PairingLaws::never_waits))]
 pub fn waits(program: &Accepted, claims: &Claims, i: u16) -> bool
     requires { PairedEntry (accepted_in program.now) claims.now i }
-    ensures { (x : PairedEntry (accepted_in program.now) claims.now i) → result ≡ waits (accepted_in program.now) x.cycle.marks i }
+    ensures { (x : PairedEntry (accepted_in program.now) claims.now i)
+        → result ≡ waits (accepted_in program.now) (marks_of (accepted_in program.now) x.entries) i }
 {
     match records::kind(program, i) {
         Kind::Leaf(Leaf::In) => claims.sender(channel_of(program, i)).is_none(),

@@ -5,9 +5,7 @@ ghost use Rattle.player.specs.Begin.{state_of};
 ghost use Rattle.player.specs.Cycle.{Runnable};
 ghost use Rattle.player.specs.Run.{RunAnswer, number_of_run, item_of_run, worked_by};
 
-use crate::claims::Claims;
-use crate::stores::Stores;
-use crate::work::Work;
+use crate::scratch::Scratch;
 use crate::{Stopped, cycle, start};
 use program::Accepted;
 
@@ -28,26 +26,22 @@ pub fn work_cycles(
     if cycles == 0 {
         return Ok(0);
     }
-    let mut work = Work::new();
-    start::fill(program, values, marks, &mut work);
-    let mut claims = Claims::new();
-    let mut stores = Stores::new();
+    let mut scratch = Scratch::new();
+    start::fill(program, values, marks, &mut scratch.work);
     let mut rest = book;
     for worked in 0..cycles {
-        let m = work.tally as usize;
+        let m = scratch.work.tally as usize;
         if m == 0 {
             return Ok(worked);
         }
-        claims.stamp = worked + 1;
+        scratch.claims.stamp = worked + 1;
         if let Err(refusal) = cycle::work_cycle(
             program,
             values,
             marks,
             counts,
             rest,
-            &mut work,
-            &mut claims,
-            &mut stores,
+            &mut scratch,
         ) {
             return Err(Stopped { refusal, worked });
         }

@@ -17,6 +17,7 @@ mod outcome; // what came of entering a node
 mod passes; // expressions from left to right
 mod records; // the records of an accepted program
 mod root; // entering node 0
+mod scratch; // what cycles work in beside the lent lists
 mod start; // what a run starts with
 mod stores; // question 9, and what is stored
 mod threads; // thread counts

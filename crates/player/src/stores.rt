@@ -1,17 +1,18 @@
 // Stores: question 9, whether two completing leaves store to one variable, the right sides in the old values, and the
 // stores of a cycle. An IN stores when an OUT is marked on its channel.
-ghost use Rattle.std.specs.Prelude.{◌≡◌, false, not, eqb, ◌<◌, length, get_or, set, ℕ, List, MatchOption};
+ghost use Rattle.std.specs.Prelude.{◌≡◌, false, not, eqb, ◌<◌, length, get_or, set, ℕ, ◌≤◌, MatchOption};
 ghost use Rattle.semantics.specs.Completion.{stores};
 ghost use Rattle.program.specs.Accepted.{accepted_in};
 ghost use Rattle.player.specs.Memo.{Holds};
-ghost use Rattle.player.specs.Channels.{PairedEntry};
+ghost use Rattle.player.specs.Channels.{marks_of, PairedEntry};
 ghost use Rattle.player.specs.Stores.{comes_to, taken_back, HeldFit, Storing, StoresAt, RightSides, Stored};
 
 use crate::claims::Claims;
+use crate::scratch::Scratch;
 use crate::work::Work;
 use crate::{expressions, records};
 use program::limits::NODES_MAX;
-use program::{Accepted, ChanId, Kind, Leaf, Node, VarId};
+use program::{Accepted, ChanId, Kind, Leaf, Node, Refusal, VarId};
 
 // A store: its variable and the value for it, and once the store is made, the value before.
 #[derive(Clone, Copy, Debug)]
@@ -41,13 +42,14 @@ impl Stores {
     }
 }
 
-// The variable that node i, a marked one, stores to, and the expression whose value it stores, where it stores: an ASG has
-// both; an IN for which an OUT is marked has the variable, and the OUT the expression.
+// The variable that node i, a marked one, stores to, and the expression whose value it stores, where it stores: an ASG
+// has both; an IN for which an OUT is marked has the variable, and the OUT the expression.
+// x has the entries of the cycle, which are not handed over: the claims tell all that is asked.
 fn target_and_source(program: &Accepted, claims: &Claims, i: u16) -> Option<(VarId, u16)>
     requires { PairedEntry (accepted_in program.now) claims.now i }
     ensures { (x : PairedEntry (accepted_in program.now) claims.now i)
-        → MatchOption result (stores (accepted_in program.now) x.cycle.marks i ≡ false)
-        (λ s. StoresAt (accepted_in program.now) x.cycle.marks i s.0.0 s.1) }
+        → MatchOption result (stores (accepted_in program.now) (marks_of (accepted_in program.now) x.entries) i ≡ false)
+        (λ s. StoresAt (accepted_in program.now) (marks_of (accepted_in program.now) x.entries) i s.0.0 s.1) }
 {
     let Node { a, b, .. } = records::node(program, i);
     match records::kind(program, i) {
@@ -66,30 +68,26 @@ fn target_and_source(program: &Accepted, claims: &Claims, i: u16) -> Option<(Var
 // making them and taking them back goes over them alone.
 pub fn work_right_sides(
     program: &Accepted,
-    work: &mut Work,
-    claims: &mut Claims,
-    stores: &mut Stores,
+    scratch: &mut Scratch,
     entries: &[u16],
-) -> bool
-    requires { (values : List ℕ) × Storing (accepted_in program.now) entries.now values work.old.memo claims.old }
-    ensures sides { (values : List ℕ) (x : Storing (accepted_in program.now) entries.now values work.old.memo claims.old)
-        → RightSides (accepted_in program.now) x.cycle.marks entries.now values work.old.memo claims.old result
-        work.new.memo claims.new stores.new }
-    ensures kept { work.new ≡ record work.old { memo = work.new.memo } }
+) -> Result<(), Refusal>
+    requires { Storing (accepted_in program.now) entries.now scratch.old.work.memo scratch.old.claims }
+    ensures { RightSides (accepted_in program.now) entries.now scratch.old result scratch.new }
 {
     let mut count = 0;
     for &i in entries {
-        if let Some((variable, source)) = target_and_source(program, claims, i) {
+        if let Some((variable, source)) = target_and_source(program, &scratch.claims, i) {
+            let claims = &mut scratch.claims;
             if !claims.writers.claim(claims.stamp, variable.0, i) {
-                return false;
+                return Err(Refusal::Stores);
             }
-            let value = expressions::right_side(program, &mut work.memo, source);
-            stores.list[count] = Store { variable, value };
+            let value = expressions::right_side(program, &mut scratch.work.memo, source);
+            scratch.stores.list[count] = Store { variable, value };
             count += 1;
         }
     }
-    stores.count = count;
-    true
+    scratch.stores.count = count;
+    Ok(())
 }
 
 // ---- the stores
@@ -117,17 +115,20 @@ fn store_one(values: &mut [u16], work: &mut Work, store: &mut Store) -> bool
     old != value
 }
 
-// All stores of the cycle. Whether any value changed.
-pub fn store_all(values: &mut [u16], work: &mut Work, stores: &mut Stores) -> bool
+// All stores of the cycle. A moment ends where a value changes.
+pub fn store_all(values: &mut [u16], work: &mut Work, stores: &mut Stores)
     requires held_fit { HeldFit values.old stores.old }
     requires holds { Holds values.old work.old.memo }
-    ensures { Stored values.old work.old stores.old result values.new work.new stores.new }
+    requires past { (e : ℕ) → e < 1024 → get_or work.old.memo.moments e 0 ≤ work.old.memo.present }
+    ensures { Stored values.old work.old stores.old values.new work.new stores.new }
 {
     let mut changed = false;
     for store in &mut stores.list[..stores.count] {
         changed = store_one(values, work, store) | changed;
     }
-    changed
+    if changed {
+        work.memo.next_moment();
+    }
 }
 
 // Takes the stores back, the last first. What `work` has of the values stays as it is: no cycle follows.

@@ -1,19 +1,17 @@
 // The walks of a cycle, entry after entry: a leaf that waits is marked again, and one that completes is left.
 ghost use mathlib.Core.List.{foldl};
-ghost use Rattle.std.specs.Prelude.{List, ℕ};
-ghost use Rattle.semantics.specs.Cycle.{visit};
 ghost use Rattle.program.specs.Accepted.{accepted_in};
-ghost use Rattle.player.specs.Begin.{state_of};
 ghost use Rattle.player.specs.Work.{Climbing};
 ghost use Rattle.player.specs.Walks.{walk_in, holds_now, Walking, Walks};
 ghost use Rattle.player.specs.Channels.{CycleOf, Paired, PairedEntry};
+ghost use Rattle.player.specs.Cycle.{visit_in};
 
 use crate::claims::Claims;
 use crate::work::Work;
 use crate::{channels, leave, marks};
 use program::Accepted;
 
-// Entry i.
+// Entry i. x has the entries of the cycle, which are not handed over: the claims tell all that is asked.
 #[tactic(auto, unfolding(semantics::specs::Cycle::visit))]
 fn visit(
     program: &Accepted,
@@ -24,10 +22,11 @@ fn visit(
     i: u16,
 )
     requires walking { Walking (accepted_in program.now) marks.old counts.old work.old }
-    requires paired_entry { PairedEntry (accepted_in program.now) claims.now i × Climbing (accepted_in program.now).nodes work.old }
-    ensures { (old counts₀ : List ℕ) (x : PairedEntry (accepted_in program.now) claims.now i)
-        → Walks (accepted_in program.now) work.old
-        (visit (accepted_in program.now) (state_of old x.cycle.marks counts₀) (holds_now (accepted_in program.now) work.old.memo) (walk_in marks.old counts.old work.old) i)
+    requires paired_entry { PairedEntry (accepted_in program.now) claims.now i }
+    requires climbing { Climbing (accepted_in program.now).nodes work.old }
+    ensures { (x : PairedEntry (accepted_in program.now) claims.now i) → Walks (accepted_in program.now) work.old
+        (visit_in (accepted_in program.now) x.entries (holds_now (accepted_in program.now) work.old.memo)
+        (walk_in marks.old counts.old work.old) i)
         marks.new counts.new work.new }
 {
     if channels::waits(program, claims, i) {
@@ -47,11 +46,12 @@ pub fn visit_all(
     entries: &[u16],
 )
     requires walking { Walking (accepted_in program.now) marks.old counts.old work.old }
-    requires paired { ((x : CycleOf (accepted_in program.now) entries.now) × Paired (accepted_in program.now) x.marks claims.now) × Climbing (accepted_in program.now).nodes work.old }
-    ensures { (old counts₀ : List ℕ) (x : CycleOf (accepted_in program.now) entries.now)
-        → Paired (accepted_in program.now) x.marks claims.now
-        → Walks (accepted_in program.now) work.old
-        (foldl (visit (accepted_in program.now) (state_of old x.marks counts₀) (holds_now (accepted_in program.now) work.old.memo)) (walk_in marks.old counts.old work.old) entries.now)
+    requires cycle { CycleOf (accepted_in program.now) entries.now }
+    requires paired { Paired (accepted_in program.now) entries.now claims.now }
+    requires climbing { Climbing (accepted_in program.now).nodes work.old }
+    ensures { Walks (accepted_in program.now) work.old
+        (foldl (visit_in (accepted_in program.now) entries.now (holds_now (accepted_in program.now) work.old.memo))
+        (walk_in marks.old counts.old work.old) entries.now)
         marks.new counts.new work.new }
 {
     for &i in entries {

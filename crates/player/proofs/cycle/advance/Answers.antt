@@ -1,47 +1,48 @@
 -- `advance` stores and walks in the lent lists, and takes both back where a zero-time loop was met.
-use Rattle.std.proofs.Common.{◌∙◌}
-use Rattle.player.proofs.AskLaws.{cycle_of}
-use Rattle.player.proofs.AdvanceLaws.{walking, climbing, advanced, taken_back_lem, lists_fit, entries_fit, marks_back, counts_back}
+use Rattle.player.proofs.AdvanceLaws.{held_fit, walking, climbing, advanced, taken_back_lem, lists_fit, entries_fit}
 use Rattle.player.proofs.cycle.advance.Goals as goal
+
+pub store_all-requires : goal.store_all-requires
+store_all-requires c =
+    let q = c.requires in
+    record {
+      held_fit = held_fit q.runnable q.carried q.started;
+      holds = q.carried.holds;
+      past = q.carried.known.past;
+    }
 
 pub visit_all-requires : goal.visit_all-requires
 visit_all-requires c =
-    let (marks, x) = c.requires.started in
-    let s = c.store.ensures _ marks _ _ _ x in
-    let clear = c.requires.cleared in
+    let q = c.requires in
+    let d = c.store_all.ensures in
     record {
-      walking = walking x c.store.new.work s clear;
-      paired = ((cycle_of x.from x.active, x.pending.paired), climbing x c.store.new.work s clear);
+      walking = walking q.runnable q.carried q.started c.store_all.new.work d q.cleared;
+      cycle = q.started.cycle;
+      paired = q.started.paired;
+      climbing = climbing q.runnable q.carried q.started c.store_all.new.work d;
     }
-
-pub returns : goal.returns
-returns c = λ marks x.
-    let s = c.store.ensures _ marks _ _ _ x in
-    let clear = c.requires.cleared in
-    let w = c.visit_all.ensures _ _ (cycle_of x.from x.active) x.pending.paired in
-    advanced x c.store.new.work s clear c.visit_all.new.work w c.if-work.false
-
-pub restore_all-requires : goal.restore_all-requires
-restore_all-requires c =
-    let (marks, x) = c.requires.started in (c.store.ensures _ marks _ _ _ x).fit
 
 pub undo_walks-requires : goal.undo_walks-requires
 undo_walks-requires c =
-    let (marks, x) = c.requires.started in
-    let s = c.store.ensures _ marks _ _ _ x in
-    let clear = c.requires.cleared in
-    let w = c.visit_all.ensures _ _ (cycle_of x.from x.active) x.pending.paired in
+    let q = c.requires in
+    let d = c.store_all.ensures in
+    let w = c.visit_all.ensures in
+    let work = c.store_all.new.work in
     record {
-      lists_fit = lists_fit x c.store.new.work s clear c.visit_all.new.work w;
-      entries_fit = entries_fit x c.store.new.work s clear c.visit_all.new.work w;
+      lists_fit = lists_fit q.runnable q.carried q.started work d q.cleared c.visit_all.new.work w;
+      entries_fit = entries_fit q.runnable q.carried q.started work d q.cleared c.visit_all.new.work w;
     }
 
-pub returns-then-work : goal.returns-then-work
-returns-then-work c = λ marks x.
-    let s = c.store.ensures _ marks _ _ _ x in
-    let clear = c.requires.cleared in
-    let w = c.visit_all.ensures _ _ (cycle_of x.from x.active) x.pending.paired in
+pub returns-then-scratch : goal.returns-then-scratch
+returns-then-scratch c =
+    let q = c.requires in
     let u = c.undo_walks.ensures in
-    let back = marks_back x c.store.new.work s clear c.visit_all.new.work w u.marks_after in
-    taken_back_lem x c.store.new.work s clear c.visit_all.new.work w c.if-work.true (c.restore_all.ensures ∙ s.back) back
-    (counts_back x c.store.new.work s clear c.visit_all.new.work w back c.undo_walks.auto.counts u.counts_after)
+    taken_back_lem q.runnable q.carried q.started c.store_all.new.work c.store_all.ensures q.cleared
+    c.visit_all.new.work c.visit_all.ensures u.marks_after c.if-scratch.true c.restore_all.ensures
+    c.undo_walks.auto.counts u.counts_after
+
+pub returns : goal.returns
+returns c =
+    let q = c.requires in
+    advanced q.runnable q.carried q.started c.store_all.new.work c.store_all.ensures q.cleared c.visit_all.new.work
+    c.visit_all.ensures c.if-scratch.false

@@ -4,7 +4,6 @@ use Rattle.std.proofs.Common.{◌≡◌, ℕ, ◌<◌, true, cond, List, length,
 use borrow.Author.Tests.{lt-ltb, le-ltb}
 use Rattle.std.proofs.Math.Seq.{take-length}
 use Rattle.semantics.specs.Program.{Program}
-use Rattle.semantics.specs.State.{State}
 use Rattle.semantics.specs.Cycle.{are_active}
 use Rattle.semantics.proofs.Lists.Logic.{lt_or_le}
 use Rattle.program.specs.declared.refusal.Refusal.TheVariants.{Entries, Channels}
@@ -13,47 +12,55 @@ use Rattle.player.specs.Entries.{crossable, set_all}
 use Rattle.player.specs.Channels.{Pairing, CrossedTo}
 use Rattle.player.specs.Cycle.{CycleFrom}
 use Rattle.player.proofs.EntryLaws.{all_fit, all-marked_again, crossed-all}
-use Rattle.player.proofs.AskLaws.{not_active, is_active, cycle_of, cleared, storing, answer_seven, answer_eight, answer_nine, answer_none}
+use Rattle.player.proofs.AskLaws.{crossed_undone, not_active, is_active, cycle_of, cleared, storing}
+use Rattle.player.proofs.AskLaws.{answer_seven, answer_eight, answer_nine, answer_none}
 use Rattle.player.proofs.cycle.ask.Goals as goal
 
 -- all entries are crossed out of the marks and have claimed their channels
-module _ {P : Program} {s : State} {entries lent : List ℕ} {before claims : Claims} (x : CycleFrom P s entries)
-    (passed : CrossedTo P entries s.marks before (Ok tt) lent claims) where
+module _ {P : Program} {marks entries lent : List ℕ} {before claims : Claims} (x : CycleFrom P marks entries)
+    (passed : CrossedTo P entries marks before (Ok tt) lent claims) where
   -- question 7 is answered yes
-  active : are_active s.marks entries ≡ true
+  active : are_active marks entries ≡ true
   active =
       let whole = crossed-all passed.out (omega arith) in is_active x (omega arith)
 
   -- and question 8
-  pairing : Pairing P s.marks before claims
+  pairing : Pairing P entries before claims
   pairing = passed.answer (cycle_of x active)
 
-  crossed : lent ≡ set_all 0 s.marks entries
-  crossed = passed.out.right ∙ ap (set_all 0 s.marks) (take-length entries)
+  crossed : lent ≡ set_all 0 marks entries
+  crossed = passed.out.right ∙ ap (set_all 0 marks) (take-length entries)
 
   -- no mark is left
-  none_left : lent ≡ replicate (length s.marks) 0
+  none_left : lent ≡ replicate (length marks) 0
   none_left = crossed ∙ cleared x active
 
   -- the entries are places of the marks
   inside : (k : ℕ) → k < length entries → get_or entries k 0 < length lent
   inside k l =
-      let fit = all_fit s.marks entries active k l in
+      let fit = all_fit marks entries active k l in
       let same = passed.out.same_length in
       omega arith
 
   -- marked again, the marks are as they were
-  marks_back : set_all 1 lent entries ≡ s.marks
+  marks_back : set_all 1 lent entries ≡ marks
   marks_back =
-      ap (λ (m : List ℕ). set_all 1 m entries) crossed ∙ all-marked_again s.marks entries active
+      ap (λ (m : List ℕ). set_all 1 m entries) crossed ∙ all-marked_again marks entries active
+
+pub refusal-requires : goal.refusal-requires
+refusal-requires c =
+    let passed = c.in-Err.ensures in rw (crossed_undone passed.out) passed.out
 
 pub returns-in-Err : goal.returns-in-Err
 returns-in-Err c =
     let passed = c.in-Err.ensures in
+    let x = c.requires.from in
     let marks = c.args.marks.now in
     let entries = c.args.entries.now in
-    let (back, which) = c.refusal.ensures marks passed.out in
-    λ values counts x carried. elim (lt_or_le (crossable marks entries) (length entries)) [
+    let undone = crossed_undone passed.out in
+    let back = c.refusal.ensures.marks_after ∙ undone in
+    let which = rw undone at c.refusal.ensures.question in
+    elim (lt_or_le (crossable marks entries) (length entries)) [
       | inl l ↦
           rw (which ∙ ap (λ b. cond b Entries Channels) (lt-ltb (crossable marks entries) (length entries) l))
           (answer_seven x (not_active x l) back)
@@ -72,27 +79,24 @@ returns-in-Err c =
 
 pub work_right_sides-requires : goal.work_right_sides-requires
 work_right_sides-requires c =
-    let (values, counts, x, carried) = c.requires.from in
     let passed = c.in_default.ensures in
-    (values, storing x (active x passed) (pairing x passed) carried)
+    let x = c.requires.from in
+    storing x (active x passed) c.args.scratch.now (pairing x passed) c.requires.known
 
 pub mark_again-requires : goal.mark_again-requires
-mark_again-requires c = inside c.requires.from.2 c.in_default.ensures
+mark_again-requires c = inside c.requires.from c.in_default.ensures
 
-pub returns-then-not-work_right_sides : goal.returns-then-not-work_right_sides
-returns-then-not-work_right_sides c = λ values counts x carried.
+pub returns-in-Err-work_right_sides : goal.returns-in-Err-work_right_sides
+returns-in-Err-work_right_sides c =
     let passed = c.in_default.ensures in
-    let p = pairing x passed in
-    let on = active x passed in
-    let sides = c.work_right_sides.ensures.sides values (storing x on p carried) in
-    answer_nine x on p carried c.work_right_sides.new.work sides c.if-not-work_right_sides.true
+    let x = c.requires.from in
+    let sides = c.in-Err-work_right_sides.ensures in
+    answer_nine x (active x passed) c.args.scratch.now (pairing x passed) _ sides
     (c.mark_again.ensures ∙ marks_back x passed)
 
 pub returns : goal.returns
-returns c = λ values counts x carried.
+returns c =
     let passed = c.in_default.ensures in
-    let p = pairing x passed in
-    let on = active x passed in
-    let sides = c.work_right_sides.ensures.sides values (storing x on p carried) in
-    answer_none x on p carried c.work_right_sides.new.work sides c.if-not-work_right_sides.false
-    c.work_right_sides.ensures.kept (none_left x passed)
+    let x = c.requires.from in
+    let sides = c.in_default-work_right_sides.ensures in
+    answer_none x (active x passed) c.args.scratch.now (pairing x passed) sides (none_left x passed)

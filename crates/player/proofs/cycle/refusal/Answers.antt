@@ -39,32 +39,35 @@ module _ {entries marks lent : List ℕ} {passed more : ℕ} (h : CrossedOut ent
 
 pub overflow_add-crossed : goal.overflow_add-crossed
 overflow_add-crossed c =
-    let (marks, h) = c.requires in
-    let fits = most h (rw (take_rest c.args.entries.now c.args.passed) at c.cross_out.ensures.value) in
+    let fits = most c.requires (rw (take_rest c.args.entries.now c.args.passed) at c.cross_out.ensures.value) in
     omega arith
 
 pub slice_bounds-mark_again-end : goal.slice_bounds-mark_again-end
 slice_bounds-mark_again-end c =
-    let (marks, h) = c.requires in
-    part_length marks c.args.entries.now (c.args.passed + c.cross_out.result)
-    (all h (rw (take_rest c.args.entries.now c.args.passed) at c.cross_out.ensures.value))
+    part_length _ c.args.entries.now (c.args.passed + c.cross_out.result)
+    (all c.requires (rw (take_rest c.args.entries.now c.args.passed) at c.cross_out.ensures.value))
 
 pub mark_again-requires : goal.mark_again-requires
 mark_again-requires c =
-    let (marks, h) = c.requires in
     let told = rw (take_rest c.args.entries.now c.args.passed) at c.cross_out.ensures.value in
     let same = c.cross_out.auto.marks in
-    let kept = h.same_length in
+    let kept = c.requires.same_length in
     λ k l.
-    let inside = part_inside marks c.args.entries.now (c.args.passed + c.cross_out.result) (all h told) k l in
+    let inside = part_inside _ c.args.entries.now (c.args.passed + c.cross_out.result) (all c.requires told) k l in
     omega arith
 
 pub returns-then-crossed-entries : goal.returns-then-crossed-entries
-returns-then-crossed-entries c = λ marks h.
+returns-then-crossed-entries c =
     let told = rw (take_rest c.args.entries.now c.args.passed) at c.cross_out.ensures in
-    (back h told.value told.marks_after c.mark_again.ensures, seven h told.value c.if-crossed-entries.true)
+    record {
+      marks_after = back c.requires told.value told.marks_after c.mark_again.ensures;
+      question = seven c.requires told.value c.if-crossed-entries.true;
+    }
 
 pub returns-else-crossed-entries : goal.returns-else-crossed-entries
-returns-else-crossed-entries c = λ marks h.
+returns-else-crossed-entries c =
     let told = rw (take_rest c.args.entries.now c.args.passed) at c.cross_out.ensures in
-    (back h told.value told.marks_after c.mark_again.ensures, eight h told.value c.if-crossed-entries.false)
+    record {
+      marks_after = back c.requires told.value told.marks_after c.mark_again.ensures;
+      question = eight c.requires told.value c.if-crossed-entries.false;
+    }

@@ -4,7 +4,8 @@ use Rattle.std.proofs.Common.{◌≡◌, ℕ, ◌<◌, List, take, replicate, re
 use mathlib.Core.Logic.{◌⊎◌}
 use native.Mathlib.Nat.{sub-zero}
 use Rattle.std.specs.Prelude.{slice_range}
-use Rattle.player.proofs.CycleAnswerLaws.{cycle_from, worked_short, worked_refused, worked_advanced}
+use Rattle.semantics.proofs.Order.CycleOrder.{fits_lengths}
+use Rattle.player.proofs.CycleAnswerLaws.{cycle_from, carried_more, worked_short, worked_refused, worked_advanced}
 use Rattle.player.proofs.cycle.work_cycle.Goals as goal
 
 -- the front of a list, as `get` gives it
@@ -17,45 +18,40 @@ short (inr l) = l
 
 pub returns-in_default : goal.returns-in_default
 returns-in_default c =
-    worked_short _ _ c.args.book.now c.requires.runnable.1.tally _ (short c.in_default.ensures.lookup.0)
+    worked_short _ _ c.args.book.now c.requires.carried.tally (short c.in_default.ensures.lookup.0)
 
 -- ---- there are enough entries
 
 pub ask-requires-clause-from : goal.ask-requires-clause-from
 ask-requires-clause-from c =
-    let (r, carried) = c.requires.runnable in
     let there = c.in-Some.ensures.lookup.0 in
-    let are = front c.args.book.now c.args.work.now.tally there.2 in
-    (c.args.values.now, c.args.counts.now, cycle_from _ _ r carried.tally there.1 are, carried)
+    let are = front c.args.book.now c.args.scratch.now.work.tally there.2 in
+    cycle_from c.args.book.now _ c.requires.runnable c.requires.carried.tally there.1 are
 
 -- ---- questions 7 to 9 are asked
 
 pub returns-in_err-ask : goal.returns-in_err-ask
 returns-in_err-ask c =
-    let (r, carried) = c.requires.runnable in
     let there = c.in-Some.ensures.lookup.0 in
-    let are = front c.args.book.now c.args.work.now.tally there.2 in
-    worked_refused _ _ c.args.book.now carried.tally _ are _ _ c.from_residual.ensures
-    (c.in_err-ask.ensures _ _ (cycle_from _ _ r carried.tally there.1 are) carried)
+    let are = front c.args.book.now c.args.scratch.now.work.tally there.2 in
+    let answer = c.in_err-ask.ensures in
+    worked_refused _ _ c.args.book.now c.requires.carried.tally are _ _ c.from_residual.ensures answer
 
-pub advance-requires-clause-started : goal.advance-requires-clause-started
-advance-requires-clause-started c =
-    let (r, carried) = c.requires.runnable in
-    let there = c.in-Some.ensures.lookup.0 in
-    let x = cycle_from _ _ r carried.tally there.1 (front c.args.book.now c.args.work.now.tally there.2) in
-    (c.args.marks.now, (c.in_ok-ask.ensures _ _ x carried).started refl)
-
-pub advance-requires-clause-cleared : goal.advance-requires-clause-cleared
-advance-requires-clause-cleared c =
-    let (r, carried) = c.requires.runnable in
-    let there = c.in-Some.ensures.lookup.0 in
-    let x = cycle_from _ _ r carried.tally there.1 (front c.args.book.now c.args.work.now.tally there.2) in
-    (c.in_ok-ask.ensures _ _ x carried).cleared refl ∙ ap (λ (n : ℕ). replicate n 0) x.fit.marks
+pub advance-requires : goal.advance-requires
+advance-requires c =
+    let answer = c.in_ok-ask.ensures in
+    let yes = answer.yes refl in
+    record {
+      runnable = rw (← yes.are_marked) c.requires.runnable;
+      carried = rw (← yes.are_marked) (carried_more c.requires.carried yes.more);
+      started = yes.started;
+      cleared =
+          yes.cleared ∙ ap (λ (n : ℕ). replicate n 0) (fits_lengths _ _ c.requires.runnable.ready.fit).marks;
+    }
 
 pub returns : goal.returns
 returns c =
-    let (r, carried) = c.requires.runnable in
     let there = c.in-Some.ensures.lookup.0 in
-    let are = front c.args.book.now c.args.work.now.tally there.2 in
-    let answer = c.in_ok-ask.ensures _ _ (cycle_from _ _ r carried.tally there.1 are) carried in
-    worked_advanced _ _ c.args.book.now carried.tally _ are answer (c.advance.ensures _ (answer.started refl))
+    let are = front c.args.book.now c.args.scratch.now.work.tally there.2 in
+    let answer = c.in_ok-ask.ensures in
+    worked_advanced _ _ c.args.book.now c.requires.carried.tally are answer c.advance.ensures

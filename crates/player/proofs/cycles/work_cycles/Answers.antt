@@ -50,7 +50,7 @@ loop-worked-preserved c =
     let so_far = c.loop-worked.invariant in
     let done = c.in_default.ensures in
     record {
-      progress = rw (take_rest c.loop-worked.rest.now c.loop-worked.work.tally)
+      progress = rw (take_rest c.loop-worked.rest.now c.loop-worked.scratch.work.tally)
           (one_worked c.requires so_far.progress so_far.carried.tally c.loop-worked-test.true c.if-m-eq0.false
           done.answer);
       carried = done.carried refl;

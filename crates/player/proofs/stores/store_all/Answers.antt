@@ -1,7 +1,7 @@
 -- `store_all` has the first stores made.
 use Rattle.std.proofs.Common.{◌≡◌, ◌||◌, Bool, length, drop, ap, arith, rules}
 use Rattle.std.proofs.lemmas.List.{length-drop}
-use Rattle.player.proofs.StoredLaws.{stored_none, stored_target, stored_more, stored-all}
+use Rattle.player.proofs.StoredLaws.{stored_none, stored_target, stored_more, stored_past, stored_moment, stored_same}
 use Rattle.player.proofs.stores.store_all.Goals as goal
 
 pub loop-store-init : goal.loop-store-init
@@ -22,9 +22,20 @@ loop-store-preserved c =
     rw (ap (λ (b : Bool). b || l.changed) made.changed, made.values_after, made.work_after, made.held)
     (stored_more _ _ _ l.invariant more inside few)
 
-pub returns : goal.returns
-returns c =
+pub next_moment-requires-clause-past : goal.next_moment-requires-clause-past
+next_moment-requires-clause-past c = stored_past c.requires.held_fit c.loop-store.invariant c.requires.past
+
+pub returns-then-changed : goal.returns-then-changed
+returns-then-changed c =
     let list = c.args.stores.now.list in
     let count = c.args.stores.now.count in
-    stored-all c.requires.held_fit c.loop-store.invariant _
-    (omega (arith, length-drop count (drop 0 list), length-drop 0 list)) c.loop-store-test.false
+    stored_moment c.requires.held_fit c.loop-store.invariant _
+    (omega (arith, length-drop count (drop 0 list), length-drop 0 list)) c.loop-store-test.false c.next_moment.ensures
+
+pub returns-else-changed : goal.returns-else-changed
+returns-else-changed c =
+    let list = c.args.stores.now.list in
+    let count = c.args.stores.now.count in
+    stored_same c.requires.held_fit c.loop-store.invariant _
+    (omega (arith, length-drop count (drop 0 list), length-drop 0 list)) c.loop-store-test.false c.requires.holds
+    c.if-changed.false
