@@ -7,7 +7,7 @@ use native.Mathlib.Omega.{arith}
 use lib.ListN.{length}
 use lib.Seq.{paste}
 use borrow.Author.Tests.{eq-eqb, le-leb, lt-leb}
-use Rattle.semantics.specs.Program.{Program}
+use Rattle.semantics.specs.Program.{Program, expr_count, node_count}
 use Rattle.semantics.specs.Check.{check_number}
 use Rattle.semantics.specs.Bytes.{bytes_of}
 use Rattle.semantics.specs.File.{sizes_of, trailer, file_of}
@@ -19,6 +19,13 @@ use Rattle.program.specs.Answer.{program_of}
 use Rattle.paper.specs.Write.{WriteAnswer}
 use Rattle.paper.proofs.AnswerLaws.{by_writing}
 use Rattle.paper.proofs.WordLaws.{put_next}
+
+-- the counts of an accepted program
+pub limits : (exprs nodes widths : List ℕ) (vars chans : ℕ) → check_number (program_of exprs nodes widths vars chans) ≡ 0
+    → (expr_count exprs ≤ 1024) × (node_count nodes ≤ 1024) × (vars ≤ 256)
+limits exprs nodes widths vars chans ok =
+    let s = (accepted (program_of exprs nodes widths vars chans) ok).sizes in
+    (s.exprs_fit, s.nodes_fit, s.variables_fit)
 
 -- with a value for each variable, the parts of an accepted program are short
 pub short : (exprs nodes widths values : List ℕ) (vars chans : ℕ)

@@ -26,6 +26,7 @@ pub(crate) struct Lengths {
 impl From<&Accepted<'_>> for FileSizes {
     ghost from_gives = { λ program sizes. sizes_in_code sizes ≡ sizes_of (accepted_in program.now) };
 
+    #[tactic(auto, using(crate::proofs::WriterLaws::limits))]
     fn from(program: &Accepted<'_>) -> FileSizes {
         FileSizes {
             nodes: program.lists.node_count() as u16,

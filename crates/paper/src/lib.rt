@@ -57,7 +57,7 @@ pub fn read(
 
 // Writes a paper: asks what check asks, 5 of the values, and 13. Where none is answered no, the start of the buffer is
 // written; what stood after it is kept.
-#[tactic(auto, using(crate::proofs::WriterLaws::short))]
+#[tactic(auto, using(crate::proofs::WriterLaws::short, crate::proofs::WriterLaws::limits))]
 pub fn write(program: Program, values: &[u16], file: &mut [u8]) -> Result<(), Refusal>
     ensures { WriteAnswer (program_in program.entry) values.now file.old
         (number_of result) (item_of result) file.new }

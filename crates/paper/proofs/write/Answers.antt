@@ -1,8 +1,7 @@
 -- `write` asks what check asks, 5 of the values and 13, and then puts the parts and the trailer.
-use Rattle.std.proofs.Common.{◌≡◌, refl, ap, ◌∙◌, ne_eqb, arith}
+use Rattle.std.proofs.Common.{◌≡◌, refl, ap, ◌∙◌, ne_eqb}
 use Rattle.std.proofs.lemmas.Result.{err_from_is_err_and}
-use Rattle.semantics.specs.File.{exprs_back, sizes_of, trailer}
-use Rattle.semantics.proofs.Lists.QuestionLaws.{accepted}
+use Rattle.semantics.specs.File.{sizes_of, trailer}
 use Rattle.semantics.proofs.Files.FileCallLaws.{write_check, write_5}
 use Rattle.program.specs.declared.Program.{Program as Lent}
 use Rattle.program.specs.Answer.{program_in}
@@ -34,12 +33,6 @@ returns-then-file-before_trailer c =
     c.if-values-program.false c.if-file-before_trailer.true _ refl
 
 -- ---- the buffer is long enough
-pub trailer_of-requires : goal.trailer_of-requires
-trailer_of-requires c =
-    let it = c.in_ok-accepted.accepted in
-    let s = (accepted (program_in it.lists) it.accepted).sizes in
-    omega (arith, s.nodes_fit, s.exprs_fit, s.variables_fit, ap exprs_back c.from.ensures)
-
 pub returns : goal.returns
 returns c =
     let it = c.in_ok-accepted in
