@@ -1,17 +1,16 @@
 -- The child that an IF or a WHL enters, by its condition.
-use Rattle.std.proofs.Common.{◌≡◌, ℕ, ◌+◌, ◌≤◌, ◌<◌, true, false, refl, ap, ◌∙◌, add-one, arith, inl, inr}
-use Rattle.semantics.specs.Program.{Program, expr_count, node_count, kind_at, end_at, a_at, is_leaf}
+use Rattle.std.proofs.Common.{◌≡◌, ℕ, ◌+◌, ◌≤◌, ◌<◌, true, false, ◌∙◌, add-one, inl, inr}
+use Rattle.semantics.specs.Program.{Program, expr_count, node_count, kind_at, end_at, a_at}
 use Rattle.semantics.specs.Program.Kind.{IF, WHL}
 use Rattle.semantics.specs.Walk.{Walk, enter}
 use Rattle.semantics.specs.Walk.Entered.{finished}
 use Rattle.semantics.specs.Facts.{NodesOk, statement_at}
-use Rattle.semantics.proofs.Tree.ChildLaws.{some_child}
 use Rattle.semantics.proofs.Walks.EnterLaws.{enter_if_true, enter_if_second, enter_if_missing, enter_whl_false, enter_whl_true}
 use Rattle.player.specs.declared.memo.Memo.{Memo}
 use Rattle.program.specs.Accepted.{accepted_in}
 use Rattle.program.specs.declared.accepted.Accepted.{Accepted as AcceptedCode}
 use Rattle.player.proofs.AcceptedLaws.{is_accepted, condition_there}
-use Rattle.player.proofs.AcceptedNodeLaws.{node_ends, end_inside}
+use Rattle.player.proofs.AcceptedNodeLaws.{node_ends, first_child}
 use Rattle.player.specs.Walks.{holds_now, is_whl, passed, Branches}
 
 module _ (program : AcceptedCode) where
@@ -21,18 +20,7 @@ module _ (program : AcceptedCode) where
   ok : NodesOk P.nodes
   ok = (is_accepted program).nodes_ok
 
-  -- a node that branches has a first child, and a condition
-  pub first_branch : (i : ℕ) → i < node_count P.nodes → Branches P.nodes i
-      → (kind_at P.nodes i ≡ kind_at P.nodes i) × (i + 1 < end_at P.nodes i) × (i + 1 < node_count P.nodes)
-  first_branch i l b =
-      let first = some_child P.nodes ok i l (branch_no_leaf b) in
-      let fits = end_inside program i l in
-      (refl, omega arith, omega arith)
-    where
-      branch_no_leaf : Branches P.nodes i → is_leaf (kind_at P.nodes i) ≡ false
-      branch_no_leaf (inl e) = ap is_leaf e
-      branch_no_leaf (inr e) = ap is_leaf e
-
+  -- a node that branches has a condition
   pub condition_within : (i : ℕ) → i < node_count P.nodes → Branches P.nodes i → a_at P.nodes i < expr_count P.exprs
   condition_within i l b = condition_there P (is_accepted program) i l b
 
@@ -59,4 +47,4 @@ module _ (program : AcceptedCode) where
       pub enter_past : kind_at P.nodes i ≡ WHL → enter (holds_now P memo) (statement_at P.nodes i) w ≡ finished w
       enter_past e = enter_whl_false P.nodes ok (holds_now P memo) i w l e h
 
-pub ruleset branching = (node_ends, first_branch, condition_within, enter_first, enter_second, enter_missing, enter_past)
+pub ruleset branching = (node_ends, first_child, condition_within, enter_first, enter_second, enter_missing, enter_past)

@@ -2,9 +2,8 @@ pub mod EntryLaws
 pub mod CycleLaws
 pub mod AcceptedLaws
 pub mod MemoLaws
-pub mod TurnLaws
-pub mod KindTurnLaws
-pub mod OutcomeLaws
+pub mod EnterLaws
+pub mod LeaveLaws
 pub mod WalkingLaws
 pub mod RunAnswerLaws
 pub mod FirstNoLaws
@@ -24,7 +23,6 @@ pub mod StampLaws
 pub mod StartLaws
 pub mod ReachedLaws
 pub mod ChosenLaws
-pub mod SiblingTurnLaws
 pub mod LiveTableLaws
 pub mod UndoLaws
 pub mod StoreLaws

@@ -56,6 +56,7 @@ fn chosen(program: &Accepted, memo: &mut Memo, i: u16) -> Option<u16>
 
 // Enter node i. What an IF, a WHL or a SEQ at its last child goes on with is entered in the next turn of the loop;
 // `looping` says whether a WHL was passed on the way.
+#[tactic(auto, using(crate::proofs::EnterLaws::one_node), unfolding(crate::specs::Walks::passed))]
 #[cycle(enter_but_last_enter_child_enter_each_enter_node)]
 pub fn enter_node(
     program: &Accepted,
@@ -99,6 +100,7 @@ pub fn enter_node(
 }
 
 // Enter node i; a leaf at once, without a call.
+#[tactic(auto, using(crate::proofs::EnterLaws::leaf_entered))]
 #[cycle(enter_but_last_enter_child_enter_each_enter_node)]
 pub fn enter_child(
     program: &Accepted,
@@ -121,6 +123,7 @@ pub fn enter_child(
 }
 
 // Enter the children of SEQ h in turn until one stays, but for the last. The last, if none stays.
+#[tactic(auto, using(crate::proofs::EnterLaws::but_last))]
 #[cycle(enter_but_last_enter_child_enter_each_enter_node)]
 fn enter_but_last(
     program: &Accepted,
@@ -149,6 +152,7 @@ fn enter_but_last(
 }
 
 // Enter every child of PAR h, first child first. Each that finishes lowers the count; the PAR is finished at 0.
+#[tactic(auto, using(crate::proofs::EnterLaws::each))]
 #[cycle(enter_but_last_enter_child_enter_each_enter_node)]
 fn enter_each(
     program: &Accepted,

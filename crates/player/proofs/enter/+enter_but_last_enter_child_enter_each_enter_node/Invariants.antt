@@ -2,11 +2,11 @@
 -- so what is left of the node list falls; at one node the child is entered as a node, and the node enters its children.
 use Rattle.std.proofs.Common.{◌≡◌, ◌-◌, ◌*◌, ◌≤◌, ◌<◌}
 use Rattle.semantics.specs.Program.{node_count, end_at}
-use Rattle.semantics.proofs.Tree.SiblingLaws.{Sibling}
+use Rattle.semantics.specs.Tree.{children_from}
+use Rattle.semantics.specs.Walk.{finished_at_zero, enter_in_turn, enter_each}
 use Rattle.program.specs.Accepted.{accepted_in}
-use Rattle.player.specs.Walks.{entering}
+use Rattle.player.specs.Walks.{entering, holds_now, walk_in}
 use Rattle.player.proofs.ReachedLaws.{Reached, rest_at}
-use Rattle.player.proofs.SiblingTurnLaws.{turns_from, each_from}
 use Rattle.player.proofs.enter.+enter_but_last_enter_child_enter_each_enter_node.Given as goal
 
 abbrev pub decreases-enter_but_last : goal.decreases-enter_but_last
@@ -28,11 +28,12 @@ invariant-enter_but_last-loop-next l =
     let P = accepted_in l.program in
     record {
       later : l.h < l.child;
-      child : Sibling P.nodes l.h l.child;
+      below : l.child < end_at P.nodes l.h;
       ends : l.next ≡ end_at P.nodes l.child;
       here : Reached P l.fn.work
           (entering P l.fn.marks l.fn.counts l.fn.work l.h)
-          (turns_from P l.fn.work l.h l.child l.marks l.counts l.work) l.marks l.counts l.work;
+          (enter_in_turn (holds_now P l.fn.work.memo) (children_from P.nodes l.child l.h) (walk_in l.marks l.counts l.work))
+          l.marks l.counts l.work;
     }
 
 abbrev pub decreases-enter_but_last-loop-next : goal.decreases-enter_but_last-loop-next
@@ -45,11 +46,11 @@ invariant-enter_each-loop-child l =
     let P = accepted_in l.program in
     record {
       later : l.h < l.child;
-      within : l.child ≤ end_at P.nodes l.h;
-      child : l.child < l.end → Sibling P.nodes l.h l.child;
       here : Reached P l.fn.work
           (entering P l.fn.marks l.fn.counts l.fn.work l.h)
-          (each_from P l.fn.work l.h l.child l.marks l.counts l.work) l.marks l.counts l.work;
+          (finished_at_zero l.h
+          (enter_each (holds_now P l.fn.work.memo) l.h (children_from P.nodes l.child l.h) (walk_in l.marks l.counts l.work)))
+          l.marks l.counts l.work;
     }
 
 abbrev pub decreases-enter_each-loop-child : goal.decreases-enter_each-loop-child
