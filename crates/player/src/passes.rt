@@ -70,7 +70,7 @@ fn next_value(program: &Accepted, memo: &Memo, i: u16, prev: u16, last: u16) -> 
         Ok(Op::Variable) => memo.variable(VarId(p)),
         Ok(Op::Number) => p,
         // No word of an accepted program. Where it is taken as a number is, one test finds the ops on two operands; with
-        // `records::op` a chain took a third longer.
+        // `records::op` a chain took a seventh more instructions.
         Err(UnknownOp) => p,
     }
 }

@@ -26,7 +26,7 @@ pub fn expr(program: &Accepted, e: u16) -> Expr
 }
 
 // The op of expression e. An accepted program has no word that is no op, so that `Below` never stands for one. With
-// `unwrap`, which keeps a test for such a word, most cycles took a fifth to a half longer; so they did in `kind`.
+// `unwrap`, which keeps a test for such a word, here and in `kind`, most cycles took a tenth to a fifth more instructions.
 pub fn op(program: &Accepted, e: u16) -> Op
     requires { e < expr_count (accepted_in program.now).exprs }
     ensures { rule_op result ≡ op_at (accepted_in program.now).exprs e }
