@@ -74,7 +74,8 @@ pub fn player_run(
     book: &[u16],
     cycles: u16,
 ) -> u64
-    ensures { RunAnswer (program_of exprs.now nodes.now widths.now vars chans) cycles (state_of values.old marks.old counts.old) book.now
+    ensures { RunAnswer (program_of exprs.now nodes.now widths.now vars chans) cycles
+        (state_of values.old marks.old counts.old) book.now
         (number_in result) (item_of_run_in result) (worked_in result) (state_of values.new marks.new counts.new) }
 {
     let program = Program {

@@ -81,7 +81,7 @@ impl Claims {
         }
     }
 
-    // The IN that claimed the channel.
+    // The IN that claimed the channel. With one method for this and the next a caller would name the slots: no plainer.
     pub fn receiver(&self, channel: ChanId) -> Option<u16>
         requires { channel.0 < 256 }
         ensures { IsClaimant self.now.inputs self.now.stamp channel.0 result }

@@ -26,7 +26,8 @@ fn after_child(
     h: u16,
 ) -> Option<u16>
     requires walking { Walking (accepted_in program.now) marks.old counts.old work.old }
-    requires i_bound { (i < node_count (accepted_in program.now).nodes) × (parent (accepted_in program.now).nodes i ≡ some h) × (kind_at (accepted_in program.now).nodes h ≡ SEQ) }
+    requires i_bound { (i < node_count (accepted_in program.now).nodes)
+        × (parent (accepted_in program.now).nodes i ≡ some h) × (kind_at (accepted_in program.now).nodes h ≡ SEQ) }
     ensures { Turned (accepted_in program.now) work.old i (walk_in marks.old counts.old work.old)
         result marks.new counts.new work.new }
 {
@@ -98,7 +99,8 @@ pub fn leave(program: &Accepted, work: &mut Work, marks: &mut [u8], counts: &mut
     requires walking { Walking (accepted_in program.now) marks.old counts.old work.old }
     requires i_bound { (i < node_count (accepted_in program.now).nodes) × Climbing (accepted_in program.now).nodes work.old }
     ensures { Walks (accepted_in program.now) work.old
-        (leave (holds_now (accepted_in program.now) work.old.memo) (accepted_in program.now).nodes i (walk_in marks.old counts.old work.old))
+        (leave (holds_now (accepted_in program.now) work.old.memo) (accepted_in program.now).nodes i
+        (walk_in marks.old counts.old work.old))
         marks.new counts.new work.new }
 {
     let mut next = Some(i);

@@ -54,7 +54,8 @@ pub fn node(program: &Accepted, i: u16) -> Node
     }
 }
 
-// The kind of node i. As in `op`, no other word stands for a delay.
+// The kind of node i. As in `op`, no other word stands for a delay. One function for both would ask for a trait whose laws
+// say which list a word is of, and what it is read as: no plainer.
 pub fn kind(program: &Accepted, i: u16) -> Kind
     requires { i < node_count (accepted_in program.now).nodes }
     ensures { rule_kind result ≡ kind_at (accepted_in program.now).nodes i }

@@ -27,7 +27,8 @@ pub fn outcome(counts: &[u16], h: u16) -> Outcome
 #[tactic(auto, using(crate::proofs::AcceptedNodeLaws::counting_children))]
 pub fn count_children(program: &Accepted, h: u16) -> u16
     requires { h < node_count (accepted_in program.now).nodes }
-    ensures { result ≡ child_count (statements (accepted_in program.now).nodes (suc h) (end_at (accepted_in program.now).nodes h)) }
+    ensures { result
+        ≡ child_count (statements (accepted_in program.now).nodes (suc h) (end_at (accepted_in program.now).nodes h)) }
 {
     let end = records::node(program, h).end;
     let mut count = 0;

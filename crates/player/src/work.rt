@@ -1,5 +1,4 @@
-// What a run keeps beside the lent lists. These stay parameters by themselves: of a struct that holds a `&mut` each function would
-// have to say that it is still the same list.
+// What entering and leaving nodes work in beside the lent lists.
 ghost use Rattle.std.specs.Prelude.{◌≡◌, ◌<◌};
 
 use crate::memo::Memo;
@@ -14,7 +13,8 @@ pub struct Work {
     pub tally: u16,
     // Whether a zero-time loop was met.
     pub looped: bool,
-    // The parents of the nodes, as their records have them: here they lie closer together.
+    // The parents of the nodes, as their records have them. A climb waits for each: read from the records, nesting of depth
+    // 32 took 1.23 of the time, and most programs 1.01 to 1.03. Options would take more stack than a run may have.
     pub parents: [u16; NODES_MAX],
     // The mask of each variable: as many low bits as the variable is wide.
     pub masks: [u16; VARS_MAX as usize],
