@@ -17,7 +17,7 @@ pub struct FileSizes {
 
 // How many words the lists of expressions and nodes take, and the values and the widths each.
 #[derive(Clone, Copy, Debug)]
-pub(crate) struct Lengths {
+pub struct Lengths {
     pub exprs: usize,
     pub nodes: usize,
     pub vars: usize,
@@ -38,7 +38,7 @@ impl From<&Accepted<'_>> for FileSizes {
 }
 
 impl FileSizes {
-    pub(crate) fn lengths(self) -> Lengths
+    pub fn lengths(self) -> Lengths
         ensures exprs { result.exprs ≡ 3 * self.exprs }
         ensures nodes { result.nodes ≡ 5 * self.nodes }
         ensures vars { result.vars ≡ self.vars }
