@@ -1,15 +1,11 @@
 -- The children of a node one after the other, in a list whose every node is ok: a child that starts below the node's
 -- end is a node, and the next one stands where it ends, which is past it and at most where the node ends.
-use mathlib.Core.Path.{◌≡◌}
-use mathlib.Core.Bool.{false}
 use mathlib.Core.List.{List}
-use Prim.Native.Nat.{ℕ, suc, ◌≤◌, ◌<◌}
-use native.Mathlib.Nat.{le_refl}
+use Prim.Native.Nat.{ℕ, ◌≤◌, ◌<◌}
 use native.Mathlib.Omega.{arith}
-use Rattle.semantics.specs.Program.{node_count, kind_at, end_at, is_leaf}
+use Rattle.semantics.specs.Program.{node_count, end_at}
 use Rattle.semantics.specs.Facts.{NodesOk}
 use Rattle.semantics.proofs.Tree.NodeLaws.{end_after, end_fits, ends_nested}
-use Rattle.semantics.proofs.Tree.ChildLaws.{some_child}
 
 pub record Sibling (nodes : List ℕ) (h j : ℕ) : Type 0 where
   pub is_node : j < node_count nodes
@@ -22,8 +18,3 @@ sibling nodes ok h j l a b =
     let f = end_fits nodes ok h l in
     let n : j < node_count nodes = omega arith in
     record { is_node = n; later = end_after nodes ok j n; within = ends_nested nodes ok h j a n b }
-
--- the first child of a node that is no leaf
-pub first_sibling : (nodes : List ℕ) → NodesOk nodes → (h : ℕ) → h < node_count nodes
-    → is_leaf (kind_at nodes h) ≡ false → Sibling nodes h (suc h)
-first_sibling nodes ok h l k = sibling nodes ok h (suc h) l (le_refl (suc h)) (some_child nodes ok h l k)
