@@ -1,5 +1,5 @@
--- What a run keeps beside the lent lists and the values: the number of marks, whether a zero-time loop was met, the parents of
--- the nodes and the masks of the variables.
+-- What entering and leaving nodes work in beside the lent lists and the values: the number of marks, whether a zero-time
+-- loop was met, the parents of the nodes and the masks of the variables.
 use Rattle.std.specs.Prelude.{◌≡◌, false, List, ℕ, ◌-◌, ◌^◌, ◌≤◌, ◌<◌, length, get_or, replicate}
 use Rattle.std.specs.Int.Bits.{bit_and}
 use Rattle.semantics.specs.Program.{node_count, parent_at}

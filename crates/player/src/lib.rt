@@ -25,7 +25,7 @@ mod undo; // what question 10 takes back
 mod visits; // the walks of a cycle
 mod well_formed; // question 6
 mod widths; // the widths of the variables
-mod work; // what a run keeps beside the lent lists
+mod work; // what entering and leaving nodes work in
 
 ghost use Rattle.std.specs.Prelude.{◌≡◌};
 ghost use Rattle.program.specs.Answer.{program_in, number_of, item_of};
