@@ -67,7 +67,7 @@ impl Program<'_> {
         word_at(self.widths, v.0 as usize)
     }
 
-    // How many expressions and nodes the lists hold.
+    // How many expressions and nodes the lists hold. One method would be told the list and the words of a record: no plainer.
     pub fn expr_count(&self) -> usize
         ensures { result ≡ expr_count self.now.exprs.now }
     {
@@ -80,7 +80,7 @@ impl Program<'_> {
         self.nodes.len() / 5
     }
 
-    // Which numbers name a variable, a channel or an expression of the program.
+    // Which numbers name a variable, a channel or an expression of the program. One method would be told which: no plainer.
     pub fn has_var(&self, v: VarId) -> bool
         ensures { result ≡ nat_lt v.0 self.now.vars }
     {
