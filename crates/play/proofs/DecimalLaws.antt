@@ -61,3 +61,6 @@ pub whole : (bytes : List ℕ) (number i : ℕ) → ReadTo bytes number i → le
 unfolding are_digits number_after
 whole bytes number i read end =
     sym (read.2 ∙ ap (word_after number) (drop_of_length-le bytes end) ∙ rw (le-leb number 65535 read.1))
+
+-- what is known before the first byte, at a byte that ends the reading, and after the last
+pub ruleset reading = (none, start, no_digit, past_words, whole)

@@ -1,24 +1,41 @@
 // The answer in words, with its number.
-use super::errors::Error;
 use super::line::Output;
-use super::text::{Counted, Joined};
+use super::text::{After, Counted, Joined};
 use player::Stopped;
 use program::Refusal;
 use std::fmt;
-use std::fmt::{Display, Write};
+use std::fmt::Display;
 
 // The most entries of a book that are told.
 const TOLD: usize = 12;
 
-// A run that no question refused.
-pub fn print_worked(out: Output, worked: u16, is_ended: bool) -> Result<(), Error> {
-    let cycles = Counted::new(worked, "cycle");
-    if is_ended {
-        out.say(format_args!("Number 0: ended after {cycles}."))?;
-    } else {
-        out.say(format_args!("Number 0: stopped after {cycles}, as many as were asked."))?;
+fn cycles(count: u16) -> Counted {
+    Counted::new(count, "cycle")
+}
+
+// How a run came to its end that no question refused, with the cycles that it worked.
+#[derive(Clone, Copy)]
+pub enum Worked {
+    Ended(u16),
+    // As many cycles as were asked.
+    Asked(u16),
+}
+
+impl Display for Worked {
+    fn fmt<W: fmt::Write>(&self, f: &mut fmt::Formatter<W>) -> fmt::Result {
+        match self {
+            Worked::Ended(count) => write!(f, "ended after {}", cycles(*count)),
+            Worked::Asked(count) => write!(
+                f,
+                "stopped after {}, as many as were asked",
+                cycles(*count)
+            ),
+        }
     }
-    Ok(())
+}
+
+pub fn print_worked(out: Output, worked: Worked) -> fmt::Result {
+    out.say(format_args!("Number 0: {worked}."))
 }
 
 // The first place of the paper that a question refuses.
@@ -49,11 +66,12 @@ impl Place {
 
 impl Display for Place {
     fn fmt<W: fmt::Write>(&self, f: &mut fmt::Formatter<W>) -> fmt::Result {
-        match self {
-            Place::Expression(e) => write!(f, "expression {e}"),
-            Place::Node(node) => write!(f, "node {node}"),
-            Place::Variable(v) => write!(f, "v{v}"),
-        }
+        let before = match self {
+            Place::Expression(_) => "expression ",
+            Place::Node(_) => "node ",
+            Place::Variable(_) => "v",
+        };
+        write!(f, "{before}{}", self.item())
     }
 }
 
@@ -87,56 +105,38 @@ fn reason(refusal: Refusal) -> &'static str {
 
 // The answer of a call, or of a file, that a question refuses: its number, with the item where it has one, and the reason.
 // A run is refused after so many cycles.
-fn print_refused(
-    out: Output,
-    refusal: Refusal,
-    what: &str,
-    worked: Option<u16>,
-) -> Result<(), Error> {
+fn print_refused(out: Output, refusal: Refusal, what: &str, worked: Option<u16>) -> fmt::Result {
     let number = refusal.number();
-    let mut line = out.line();
-    write!(line, "Number {number}")?;
     let place = Place::of(refusal);
-    if let Some(place) = place {
-        write!(line, ", item {}", place.item())?;
-    }
-    write!(line, ": {what} refused by question {number}")?;
-    if let Some(place) = place {
-        write!(line, ", first at {place}")?;
-    }
-    if let Some(worked) = worked {
-        write!(line, " after {}", Counted::new(worked, "cycle"))?;
-    }
-    write!(line, ".")?;
-    out.end(&mut line)?;
-    out.say(format_args!("  {}", reason(refusal)))?;
-    Ok(())
+    out.say(format_args!(
+        "Number {number}{}: {what} refused by question {number}{}{}.",
+        After::new(", item ", place.map(Place::item)),
+        After::new(", first at ", place),
+        After::new(" after ", worked.map(cycles)),
+    ))?;
+    out.say(format_args!("  {}", reason(refusal)))
 }
 
-pub fn print_begin_refused(out: Output, refusal: Refusal) -> Result<(), Error> {
+pub fn print_begin_refused(out: Output, refusal: Refusal) -> fmt::Result {
     print_refused(out, refusal, "begin", None)
 }
 
 // A paper that is not read from a file of words, or not written to one.
-pub fn print_file_refused(out: Output, refusal: Refusal) -> Result<(), Error> {
+pub fn print_file_refused(out: Output, refusal: Refusal) -> fmt::Result {
     print_refused(out, refusal, "the paper is", None)
 }
 
-pub fn print_run_refused(out: Output, stopped: Stopped) -> Result<(), Error> {
+pub fn print_run_refused(out: Output, stopped: Stopped) -> fmt::Result {
     print_refused(out, stopped.refusal, "run", Some(stopped.worked))
 }
 
 // What the book has for a cycle.
-pub fn print_entries(out: Output, entries: &[u16], cycle: u16) -> Result<(), Error> {
-    let mut line = out.line();
-    write!(line, "  The book's entries for cycle {cycle}: ")?;
-    if entries.is_empty() {
-        write!(line, "none")?;
-    }
-    write!(line, "{}", Joined::new(entries, TOLD, " "))?;
-    if TOLD < entries.len() {
-        write!(line, " ..")?;
-    }
-    out.end(&mut line)?;
-    Ok(())
+pub fn print_entries(out: Output, entries: &[u16], cycle: u16) -> fmt::Result {
+    let told = Joined::new(entries, TOLD, " ");
+    let end = match entries.len() {
+        0 => "none",
+        1..=TOLD => "",
+        _ => " ..",
+    };
+    out.say(format_args!("  The book's entries for cycle {cycle}: {told}{end}"))
 }

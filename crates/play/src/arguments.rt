@@ -14,19 +14,24 @@ const ARGUMENT: usize = 4096;
 // The most arguments there may be, the program's name among them.
 const MOST: usize = 4;
 
-// What is asked for. An argument is bytes, since the name of a file need not be UTF-8.
+// What is done with a paper.
 #[derive(Drop)]
-pub enum Task {
-    PlayFirst,
-    Play { name: Vec<u8>, asked: Asked },
-    Write { name: Vec<u8>, target: Vec<u8> },
+pub enum Job {
+    Play(Asked),
+    // To a new file of this name.
+    Write(Vec<u8>),
 }
 
-// How many arguments there are, the program's name among them: one more than MOST where there are more.
-fn arg_count(rt: &impl Env) -> usize {
-    (0..=MOST)
-        .find(|i| matches!(rt.arg(*i, &mut [0u8; 1]), Err(FillError::NotPresent)))
-        .unwrap_or(MOST + 1)
+// What is asked for. A name is bytes, since that of a file need not be UTF-8.
+#[derive(Drop)]
+pub struct Task {
+    pub paper: Vec<u8>,
+    pub job: Job,
+}
+
+// How many arguments there are, the program's name among them, if there are no more than there may be.
+fn arg_count(rt: &impl Env) -> Option<usize> {
+    (0..=MOST).find(|i| matches!(rt.arg(*i, &mut [0u8; 1]), Err(FillError::NotPresent)))
 }
 
 // Argument i, or what is said where it is too long.
@@ -35,7 +40,8 @@ fn argument(
     i: usize,
     too_long: &'static str,
 ) -> Result<Vec<u8>, Error> {
-    // The buffer has a fixed length: an argument that is longer is refused, with a message that is behaviour.
+    // The library's args gives texts, and none where one is not UTF-8, of which a message tells here. So it is bytes that are
+    // asked for, and these go into a buffer of a fixed length.
     let mut bytes = vec![in rt.alloc(); 0u8; ARGUMENT]?;
     match rt.arg(i, &mut bytes) {
         Ok(n) => {
@@ -44,10 +50,6 @@ fn argument(
         }
         Err(_) => Err(Error::Arguments(too_long)),
     }
-}
-
-fn name_argument(rt: &(impl Env + AllocGlobal)) -> Result<Vec<u8>, Error> {
-    argument(rt, 1, "the name of the paper is too long.")
 }
 
 fn order_in(alloc: Global, text: &[u8]) -> Result<Order, Error> {
@@ -77,59 +79,48 @@ fn is_write(text: &[u8]) -> bool {
     text == b"--write".as_slice()
 }
 
-// With three arguments: a paper and its order and cycles, or a paper and the file to write.
-fn task_of_three(rt: &(impl Env + AllocGlobal), second: &[u8]) -> Result<Task, Error> {
-    let third = argument(rt, 3, "the last argument is too long.")?;
-    if is_write(second) {
-        let name = name_argument(rt)?;
-        return Ok(Task::Write {
-            name,
-            target: third,
-        });
-    }
-    let cycles = Some(cycles_in(rt.alloc(), &third)?);
-    let order = Some(order_in(rt.alloc(), second)?);
-    let name = name_argument(rt)?;
-    Ok(Task::Play {
-        name,
-        asked: Asked { order, cycles },
-    })
+fn play_in_order(alloc: Global, order: &[u8], cycles: Option<u16>) -> Result<Job, Error> {
+    let order = Some(order_in(alloc, order)?);
+    Ok(Job::Play(Asked { order, cycles }))
 }
 
-// With two arguments: a paper and its order.
-fn task_of_two(rt: &(impl Env + AllocGlobal), second: &[u8]) -> Result<Task, Error> {
-    if is_write(second) {
+fn second_argument(rt: &(impl Env + AllocGlobal)) -> Result<Vec<u8>, Error> {
+    argument(rt, 2, "the book is too long.")
+}
+
+// After a paper, its order.
+fn job_of_two(rt: &(impl Env + AllocGlobal)) -> Result<Job, Error> {
+    let second = second_argument(rt)?;
+    if is_write(&second) {
         return Err(Error::Arguments("name the file to write, as in ./play 3 --write swap.words."));
     }
-    let order = Some(order_in(rt.alloc(), second)?);
-    let name = name_argument(rt)?;
-    Ok(Task::Play {
-        name,
-        asked: Asked {
-            order,
-            cycles: None,
-        },
-    })
+    play_in_order(rt.alloc(), &second, None)
 }
 
-pub fn asked_task(rt: &(impl Env + AllocGlobal)) -> Result<Task, Error> {
-    let count = arg_count(rt);
-    match count {
-        0..=1 => Ok(Task::PlayFirst),
-        2 => Ok(Task::Play {
-            name: name_argument(rt)?,
-            asked: Asked::default(),
-        }),
-        3..=4 => {
-            let second = argument(rt, 2, "the book is too long.")?;
-            if count == 3 {
-                task_of_two(rt, &second)
-            } else {
-                task_of_three(rt, &second)
-            }
-        }
-        _ => Err(Error::Arguments(
-            "give a paper, an order and a number of cycles at most, as in ./play 3 down 2.",
-        )),
+// After a paper, its order and cycles, or the file to write.
+fn job_of_three(rt: &(impl Env + AllocGlobal)) -> Result<Job, Error> {
+    let second = second_argument(rt)?;
+    let third = argument(rt, 3, "the last argument is too long.")?;
+    if is_write(&second) {
+        return Ok(Job::Write(third));
     }
+    let cycles = cycles_in(rt.alloc(), &third)?;
+    play_in_order(rt.alloc(), &second, Some(cycles))
+}
+
+// What the arguments ask for, if there are any.
+pub fn asked_task(rt: &(impl Env + AllocGlobal)) -> Result<Option<Task>, Error> {
+    let job = match arg_count(rt) {
+        Some(0..=1) => return Ok(None),
+        Some(2) => Job::Play(Asked::default()),
+        Some(3) => job_of_two(rt)?,
+        Some(_) => job_of_three(rt)?,
+        None => {
+            return Err(Error::Arguments(
+                "give a paper, an order and a number of cycles at most, as in ./play 3 down 2.",
+            ));
+        }
+    };
+    let paper = argument(rt, 1, "the name of the paper is too long.")?;
+    Ok(Some(Task { paper, job }))
 }

@@ -1,7 +1,6 @@
 // Plays a paper: begin, and then run, a cycle at a time, so that each cycle is a row of the table. Runs compose, so
 // these are the cycles of one run.
-use super::answer::{print_begin_refused, print_entries, print_run_refused, print_worked};
-use super::errors::Error;
+use super::answer::{Worked, print_begin_refused, print_entries, print_run_refused, print_worked};
 use super::layout::Paper;
 use super::line::Output;
 use super::machine;
@@ -10,6 +9,7 @@ use super::state::State;
 use super::table::Table;
 use player::Stopped;
 use program::Refusal;
+use std::fmt;
 
 // How a paper is played: the order, the cycles asked, and the table.
 #[derive(Drop)]
@@ -28,7 +28,7 @@ struct Refused {
     entries: Vec<u16>,
 }
 
-// What a run answers: how many cycles it worked, unless one was refused. An Error is no answer: play itself failed.
+// What a run answers: how many cycles it worked, unless one was refused. An fmt::Error is no answer: memory ran out.
 type Answer = Result<u16, Refused>;
 
 impl Run<'_> {
@@ -38,7 +38,7 @@ impl Run<'_> {
         cycle: u16,
         state: &mut State,
         entries: &[u16],
-    ) -> Result<Result<(), Refusal>, Error> {
+    ) -> Result<Result<(), Refusal>, fmt::Error> {
         let before = state.clone()?;
         let outcome = machine::run(self.paper, state, entries);
         if outcome.is_ok() {
@@ -48,7 +48,7 @@ impl Run<'_> {
     }
 
     // Works cycles up to the number asked, and stops before that at an ended state or a refused cycle.
-    fn work_cycles(&self, state: &mut State) -> Result<Answer, Error> {
+    fn work_cycles(&self, state: &mut State) -> Result<Answer, fmt::Error> {
         let alloc = self.out.alloc;
         let mut book = self.order.book();
         for worked in 0..self.cycles {
@@ -67,44 +67,59 @@ impl Run<'_> {
         Ok(Ok(self.cycles))
     }
 
+    fn print_worked(&self, worked: u16, state: &State, active: &[u16]) -> fmt::Result {
+        self.table.print_row("after", state, active)?;
+        self.out.say("")?;
+        let worked = if active.is_empty() {
+            Worked::Ended(worked)
+        } else {
+            Worked::Asked(worked)
+        };
+        print_worked(self.out, worked)
+    }
+
+    fn print_refused(&self, refused: &Refused, state: &State, active: &[u16]) -> fmt::Result {
+        let Refused { stopped, entries } = refused;
+        self.table.print_row(stopped.worked, state, active)?;
+        self.out.say("")?;
+        print_run_refused(self.out, *stopped)?;
+        match stopped.refusal {
+            Refusal::Entries => print_entries(self.out, entries, stopped.worked),
+            _ => Ok(()),
+        }
+    }
+
     // The last row and the answer.
-    fn print_end(&self, answer: Answer, state: &State) -> Result<(), Error> {
+    fn print_end(&self, answer: Answer, state: &State) -> fmt::Result {
         let active = state.active(self.out.alloc)?;
         match answer {
-            Ok(worked) => {
-                self.table.print_last_row(state, &active)?;
-                self.out.say("")?;
-                print_worked(self.out, worked, active.is_empty())
-            }
-            Err(Refused { stopped, entries }) => {
-                self.table.print_row(stopped.worked, state, &active)?;
-                self.out.say("")?;
-                print_run_refused(self.out, stopped)?;
-                if stopped.refusal == Refusal::Entries {
-                    print_entries(self.out, &entries, stopped.worked)?;
-                }
-                Ok(())
-            }
+            Ok(worked) => self.print_worked(worked, state, &active),
+            Err(refused) => self.print_refused(&refused, state, &active),
         }
+    }
+
+    fn print(&self, state: &mut State) -> fmt::Result {
+        self.out.say(
+            "Each row is the state before a cycle, with the active statements in the order worked.",
+        )?;
+        self.table.print_head()?;
+        let answer = self.work_cycles(state)?;
+        self.print_end(answer, state)
     }
 }
 
-pub fn play(out: Output, paper: &Paper, order: &Order, cycles: u16) -> Result<(), Error> {
+pub fn play(out: Output, paper: &Paper, order: &Order, cycles: u16) -> fmt::Result {
     let mut state = State::new(out.alloc, paper)?;
     if let Err(refusal) = machine::begin(paper, &mut state) {
         return print_begin_refused(out, refusal);
     }
+    let table = Table::new(out, paper.sizes);
     let run = Run {
         out,
         paper,
         order,
         cycles,
-        table: Table::new(out, paper.sizes),
+        table,
     };
-    out.say(
-        "Each row is the state before a cycle, with the active statements in the order worked.",
-    )?;
-    run.table.print_head()?;
-    let answer = run.work_cycles(&mut state)?;
-    run.print_end(answer, &state)
+    run.print(&mut state)
 }

@@ -3,9 +3,11 @@ ghost use Rattle.std.specs.Prelude.{◌≡◌};
 ghost use Rattle.play.specs.Decimal.{word_of};
 
 use super::errors::{Fault, Limit, told};
+use super::text::until;
 use std::alloc::Global;
 
-// The word that decimal digits say.
+// The word that decimal digits say. The library's parse takes a sign before them, as in +3, which is no word here.
+#[tactic(auto, using(crate::proofs::DecimalLaws::reading))]
 pub fn word_of(digits: &[u8]) -> Option<u16>
     ensures { result ≡ word_of digits.now }
 {
@@ -28,14 +30,9 @@ fn is_blank(byte: u8) -> bool {
     matches!(byte, 9..=13 | b' ' | b',')
 }
 
-// A line without its comment.
-fn code_of(line: &[u8]) -> &[u8] {
-    line.split(|byte| *byte == b'#').next().unwrap_or(line)
-}
-
-// Adds the words of the line of a number.
+// Adds the words of the line of a number, up to its comment.
 fn read_line(line: &[u8], number: usize, limit: Limit, words: &mut Vec<u16>) -> Result<(), Fault> {
-    let texts = code_of(line).split(|byte| is_blank(*byte));
+    let texts = until(line, b'#').split(|byte| is_blank(*byte));
     for text in texts.filter(|text| !text.is_empty()) {
         let Some(word) = word_of(text) else {
             let text = told(*words.allocator(), text)?;

@@ -1,9 +1,10 @@
 // What is wrong with the arguments or with a file, in one line.
+use super::answer;
 use super::line::{Line, Output};
-use super::{answer, papers};
+use super::papers::PAPERS;
+use super::text::until;
 use program::Refusal;
 use std::alloc::{AllocError, AllocFailed, Global};
-use std::fmt::Write;
 use std::io::Print;
 use std::rt::Stderr;
 use std::{fmt, io};
@@ -49,6 +50,7 @@ pub enum Error {
     Refused(Refusal),
 }
 
+// There is a From for each type of error: one From for several would need a trait of ours that the types of std do not have.
 impl From<AllocError> for Fault {
     fn from(_error: AllocError) -> Fault {
         Fault::OutOfMemory
@@ -73,12 +75,6 @@ impl From<AllocError> for Error {
     }
 }
 
-impl<T: Drop> From<AllocFailed<T>> for Error {
-    fn from(_error: AllocFailed<T>) -> Error {
-        Error::OutOfMemory
-    }
-}
-
 // A line takes every text, unless memory runs out.
 impl From<fmt::Error> for Error {
     fn from(_error: fmt::Error) -> Error {
@@ -98,51 +94,67 @@ pub fn told(alloc: Global, text: &[u8]) -> Result<Vec<u8>, AllocError> {
 }
 
 // What the system says of a failed call. std puts the error's number after it, in parentheses, which is left out.
+fn reason_of(text: &[u8]) -> &[u8] {
+    let reason = until(text, b'(');
+    reason.strip_suffix(b" ".as_slice()).unwrap_or(reason)
+}
+
 fn put_reason(error: &io::Error, line: &mut Line) -> fmt::Result {
     let mut whole = line.another();
-    write!(whole, "{error}")?;
-    let text = whole.as_bytes();
-    let end = match text.iter().position(|byte| *byte == b'(') {
-        Some(at) => at.saturating_sub(1),
-        None => text.len(),
-    };
-    write!(line, ": ")?;
-    line.put_readable(text.get(..end).unwrap_or(text))?;
+    whole.put(error);
+    line.put(": ");
+    line.put_readable(reason_of(whole.text()?));
     Ok(())
 }
 
 // What an argument should be, and what it is.
-fn put_unclear(what: &str, text: &[u8], line: &mut Line) -> fmt::Result {
-    write!(line, "play: {what}, and not ")?;
-    line.put_readable(text)?;
-    Ok(())
+fn put_unclear(what: &str, text: &[u8], line: &mut Line) {
+    line.put(format_args!("play: {what}, and not "));
+    line.put_readable(text);
+}
+
+fn put_no_paper(paper: u16, line: &mut Line) {
+    let count = PAPERS.len();
+    line.put(format_args!("play: there is no paper {paper}: the papers are 1 to {count}."));
+}
+
+impl Limit {
+    fn put(self, line: &mut Line) {
+        let Limit {
+            thing,
+            most,
+            of_what,
+        } = self;
+        line.put(format_args!(": the {thing} is too long: it has more than {most} {of_what}."));
+    }
+}
+
+fn put_cut_short(has: usize, needs: usize, line: &mut Line) {
+    line.put(format_args!(
+        ": the paper is cut short: it has {has} words, and its lists need {needs}."
+    ));
+}
+
+fn put_no_word(number: usize, text: &[u8], line: &mut Line) {
+    line.put(format_args!(", line {number}: "));
+    line.put_readable(text);
+    line.put(" is no word (a number from 0 to 65535).");
 }
 
 impl Fault {
     // What is said after the name of the file.
     fn put(&self, line: &mut Line) -> fmt::Result {
         match self {
-            Fault::OutOfMemory => write!(line, ": out of memory"),
-            Fault::Unread(error) => put_reason(error, line),
-            Fault::TooLong(limit) => write!(
-                line,
-                ": the {} is too long: it has more than {} {}.",
-                limit.thing, limit.most, limit.of_what
-            ),
-            Fault::CutShort { has, needs } => write!(
-                line,
-                ": the paper is cut short: it has {has} words, and its lists need {needs}."
-            ),
-            Fault::NotAWord { line: number, text } => {
-                write!(line, ", line {number}: ")?;
-                line.put_readable(text.as_slice())?;
-                write!(line, " is no word (a number from 0 to 65535).")
-            }
+            Fault::OutOfMemory => line.put(": out of memory"),
+            Fault::Unread(error) => put_reason(error, line)?,
+            Fault::TooLong(limit) => limit.put(line),
+            Fault::CutShort { has, needs } => put_cut_short(*has, *needs, line),
+            Fault::NotAWord { line: number, text } => put_no_word(*number, text, line),
         }
+        Ok(())
     }
 }
 
-// The name of a file is written by itself, since it can be longer than a line.
 fn write_name(err: Stderr, before: &str, name: &[u8]) {
     let _ = err.write_all(before.as_bytes());
     let _ = err.write_all(name);
@@ -161,40 +173,39 @@ impl Error {
         }
     }
 
+    // The name of a file is written by itself, since it can be longer than a line.
+    fn write_file(&self, err: Stderr) {
+        match self {
+            Error::InFile { name, .. } => write_name(err, "play: ", name),
+            Error::Unwritten { name, .. } => write_name(err, UNWRITTEN, name),
+            _ => {}
+        }
+    }
+
     // Says it on a line. A refusal is an answer, and goes to the output.
-    pub fn print(&self, out: Output, err: Stderr) -> Result<(), Error> {
+    pub fn print(&self, out: Output, err: Stderr) -> fmt::Result {
         let mut line = out.line();
         match self {
-            Error::OutOfMemory => return Err(Error::OutOfMemory),
-            Error::Arguments(text) => write!(line, "play: {text}")?,
-            Error::NoOrder(text) => {
-                put_unclear(
-                    "an order is up, down or a book such as 2,1",
-                    text,
-                    &mut line,
-                )?;
-            }
-            Error::NoCycles(text) => {
-                put_unclear("a number of cycles is from 0 to 65535", text, &mut line)?;
-            }
-            Error::NoPaper(paper) => {
-                let count = papers::count();
-                write!(
-                    line,
-                    "play: there is no paper {paper}: the papers are 1 to {count}."
-                )?;
-            }
-            Error::InFile { name, fault } => {
-                fault.put(&mut line)?;
-                write_name(err, "play: ", name.as_slice());
-            }
-            Error::Unwritten { name, error } => {
-                put_reason(error, &mut line)?;
-                write_name(err, UNWRITTEN, name.as_slice());
-            }
+            Error::OutOfMemory => return Err(fmt::Error),
             Error::Refused(refusal) => return answer::print_file_refused(out, *refusal),
+            Error::Arguments(text) => line.put(format_args!("play: {text}")),
+            Error::NoOrder(text) => put_unclear(
+                "an order is up, down or a book such as 2,1",
+                text,
+                &mut line,
+            ),
+            Error::NoCycles(text) => put_unclear(
+                "a number of cycles is from 0 to 65535",
+                text,
+                &mut line,
+            ),
+            Error::NoPaper(paper) => put_no_paper(*paper, &mut line),
+            Error::InFile { fault, .. } => fault.put(&mut line)?,
+            Error::Unwritten { error, .. } => put_reason(error, &mut line)?,
         }
-        line.end(&err)?;
-        Ok(())
+        // No name comes before a line that there is no memory for.
+        line.text()?;
+        self.write_file(err);
+        line.end(&err)
     }
 }

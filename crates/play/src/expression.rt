@@ -21,7 +21,7 @@ pub struct Expression<'a> {
 // The sign of an op, how closely it binds, and how closely its operands have to bind to stand without parentheses.
 #[derive(Clone, Copy)]
 struct Sign {
-    sign: char,
+    sign: &'static str,
     rank: u16,
     left: u16,
     right: u16,
@@ -35,36 +35,52 @@ struct Step<'a> {
     right: Expression<'a>,
 }
 
+impl Sign {
+    fn new(sign: &'static str, rank: u16, left: u16, right: u16) -> Sign {
+        Sign {
+            sign,
+            rank,
+            left,
+            right,
+        }
+    }
+}
+
 fn sign_of(op: Binary) -> Sign {
-    let (sign, rank, left, right) = match op {
-        Binary::Add => ('+', 2, 2, 3),
-        Binary::Sub => ('-', 2, 2, 3),
-        Binary::Mul => ('*', 3, 3, 4),
-        Binary::And => ('&', 1, 4, 4),
-        Binary::Equal => ('=', 1, 2, 2),
-        Binary::Below => ('<', 1, 2, 2),
-    };
-    Sign {
-        sign,
-        rank,
-        left,
-        right,
+    match op {
+        Binary::Add => Sign::new(" + ", 2, 2, 3),
+        Binary::Sub => Sign::new(" - ", 2, 2, 3),
+        Binary::Mul => Sign::new(" * ", 3, 3, 4),
+        Binary::And => Sign::new(" & ", 1, 4, 4),
+        Binary::Equal => Sign::new(" = ", 1, 2, 2),
+        Binary::Below => Sign::new(" < ", 1, 2, 2),
     }
 }
 
 impl<'a> Expression<'a> {
     // An expression as deep as there is room for it, and no less than 1.
     pub fn fitting(program: Program<'a>, e: u16, room: usize) -> Expression<'a> {
-        let to_depth = |depth| Expression {
+        let shortest = Expression {
             program,
             e,
-            depth,
+            depth: 1,
             rank: 0,
         };
-        let depth = (2..=DEPTH)
-            .rev()
-            .find(|depth| length_of(to_depth(*depth)) < room);
-        to_depth(depth.unwrap_or(1))
+        for depth in (2..=DEPTH).rev() {
+            let expression = Expression { depth, ..shortest };
+            if expression.fits(room) {
+                return expression;
+            }
+        }
+        shortest
+    }
+
+    // Whether it leaves some of the room.
+    fn fits(self, room: usize) -> bool {
+        match length_of(self) {
+            Ok(length) => length < room,
+            Err(fmt::Error) => false,
+        }
     }
 
     // Its words, if the program has such an expression.
@@ -125,16 +141,16 @@ impl<'a> Expression<'a> {
 
     // A number, a variable or a name.
     fn put_atom<W: fmt::Write>(self, f: &mut fmt::Formatter<W>) -> fmt::Result {
-        let e = self.e;
-        let Some(Expr { op, p, .. }) = self.words() else {
-            return write!(f, "e{e}");
+        let (before, number) = match self.words() {
+            None => ("e", self.e),
+            Some(Expr { op, p, .. }) => match Op::try_from(op) {
+                Ok(Op::Number) => ("", p),
+                Ok(Op::Variable) => ("v", p),
+                Ok(Op::Binary(_)) => ("e", self.e),
+                Err(UnknownOp) => ("op ", op),
+            },
         };
-        match Op::try_from(op) {
-            Ok(Op::Number) => write!(f, "{p}"),
-            Ok(Op::Variable) => write!(f, "v{p}"),
-            Ok(Op::Binary(_)) => write!(f, "e{e}"),
-            Err(UnknownOp) => write!(f, "op {op}"),
-        }
+        write!(f, "{before}{number}")
     }
 
     fn put<W: fmt::Write>(self, f: &mut fmt::Formatter<W>) -> fmt::Result {
@@ -148,7 +164,7 @@ impl<'a> Expression<'a> {
         };
         f.write_str(open)?;
         step.left.put(f)?;
-        write!(f, " {} ", step.sign.sign)?;
+        f.write_str(step.sign.sign)?;
         step.right.put(f)?;
         f.write_str(close)
     }

@@ -21,14 +21,24 @@ fn path_of(name: &[u8]) -> io::Result<&str> {
     }
 }
 
-// A file's bytes. What has been read before a read fails is taken for all.
-pub fn read(files: &impl Files, alloc: Global, name: &[u8]) -> Result<Vec<u8>, Fault> {
-    let file = File::open(files, path_of(name)?)?;
+fn open<R: Files>(files: &R, name: &[u8]) -> io::Result<R::File> {
+    File::open(files, path_of(name)?)
+}
+
+// A file's bytes, as many as are read. What has been read before a read fails is taken for all.
+fn read_all(alloc: Global, file: impl Read + Drop) -> Result<Vec<u8>, Fault> {
     let mut contents = Vec::with_capacity(alloc, BYTES.most + 1)?;
+    // There is no From from a usize into a u64.
     let outcome = file.take(BYTES.most as u64 + 1).read_to_end(&mut contents);
     if contents.is_empty() {
         outcome?;
     }
+    Ok(contents)
+}
+
+pub fn read(files: &impl Files, alloc: Global, name: &[u8]) -> Result<Vec<u8>, Fault> {
+    let file = open(files, name)?;
+    let contents = read_all(alloc, file)?;
     if BYTES.most < contents.len() {
         return Err(Fault::TooLong(BYTES));
     }

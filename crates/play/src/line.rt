@@ -1,5 +1,6 @@
-// A line of output: it is put together piece by piece and then written out. What would come past its width is dropped.
-use std::alloc::{AllocError, Global};
+// A line of output: it is put together piece by piece and then written out. What would come past its width is dropped. Where
+// memory runs out for a piece, the end of the line says so, as in std's DebugStruct.
+use std::alloc::Global;
 use std::fmt;
 use std::fmt::{Display, Write};
 use std::io::Print;
@@ -12,6 +13,7 @@ pub const WIDTH: usize = 100;
 #[derive(Drop)]
 pub struct Line {
     text: Vec<u8>,
+    outcome: fmt::Result,
 }
 
 // What is no character is read as a question mark.
@@ -23,6 +25,7 @@ impl Line {
     pub fn new(alloc: Global) -> Line {
         Line {
             text: Vec::new(alloc),
+            outcome: Ok(()),
         }
     }
 
@@ -31,32 +34,49 @@ impl Line {
         Line::new(*self.text.allocator())
     }
 
-    pub fn as_bytes(&self) -> &[u8] {
-        self.text.as_slice()
-    }
-
     // How many bytes there is room for.
     pub fn room(&self) -> usize {
         WIDTH.saturating_sub(self.text.len())
     }
 
+    pub fn put(&mut self, text: impl Display + Drop) {
+        if write!(self, "{text}").is_err() {
+            self.outcome = Err(fmt::Error);
+        }
+    }
+
     // A text of the user's.
-    pub fn put_readable(&mut self, text: &[u8]) -> Result<(), AllocError> {
+    pub fn put_readable(&mut self, text: &[u8]) {
         let room = self.room();
-        self.text
-            .extend(text.iter().take(room).map(|byte| readable(*byte)))
+        let readable = text.iter().take(room).map(|byte| readable(*byte));
+        if self.text.extend(readable).is_err() {
+            self.outcome = Err(fmt::Error);
+        }
     }
 
     // Blanks up to a column.
-    pub fn pad_to(&mut self, column: usize) -> fmt::Result {
+    pub fn pad_to(&mut self, column: usize) {
         let blanks = column.saturating_sub(self.text.len());
-        write!(self, "{:blanks$}", "")
+        self.put(format_args!("{:blanks$}", ""));
+    }
+
+    // A text from a column on.
+    pub fn put_at(&mut self, column: usize, text: impl Display + Drop) {
+        self.pad_to(column);
+        self.put(text);
+    }
+
+    // What is put so far.
+    pub fn text(&self) -> Result<&[u8], fmt::Error> {
+        self.outcome?;
+        Ok(self.text.as_slice())
     }
 
     // Writes the line to one of the two outputs, in one call, and begins the next. A line that cannot be written is let go.
-    pub fn end(&mut self, to: &impl Print) -> Result<(), AllocError> {
-        self.text.push(b'\n')?;
-        let _ = to.write_all(self.as_bytes());
+    pub fn end(&mut self, to: &impl Print) -> fmt::Result {
+        self.outcome?;
+        self.text.extend_from_slice(b"\n")?;
+        let _ = to.write_all(self.text.as_slice());
         self.text.clear();
         Ok(())
     }
@@ -82,12 +102,10 @@ impl Write for Length {
 }
 
 // How many bytes a text has when it is written out.
-pub fn length_of(text: impl Display + Drop) -> usize {
+pub fn length_of(text: impl Display + Drop) -> Result<usize, fmt::Error> {
     let mut length = Length(0);
-    match write!(length, "{text}") {
-        Ok(()) => length.0,
-        Err(_) => usize::MAX,
-    }
+    write!(length, "{text}")?;
+    Ok(length.0)
 }
 
 // The output that lines go to, and the memory that they are put together in.
@@ -102,15 +120,14 @@ impl Output {
         Line::new(self.alloc)
     }
 
-    pub fn end(self, line: &mut Line) -> Result<(), AllocError> {
+    pub fn end(self, line: &mut Line) -> fmt::Result {
         line.end(&self.to)
     }
 
     // A whole line.
-    pub fn say(self, text: impl Display + Drop) -> Result<(), fmt::Error> {
+    pub fn say(self, text: impl Display + Drop) -> fmt::Result {
         let mut line = self.line();
-        write!(line, "{text}")?;
-        self.end(&mut line)?;
-        Ok(())
+        line.put(text);
+        self.end(&mut line)
     }
 }

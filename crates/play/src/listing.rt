@@ -1,13 +1,12 @@
 // The program as an indented listing: a line for each node, with its number, and the widths that are not 16.
-use super::errors::Error;
 use super::expression::Expression;
 use super::layout::Paper;
 use super::line::{Line, Output};
 use super::statement::Statement;
 use super::text::Counted;
 use program::limits::{DEPTH_MAX, EXPRS_MAX, NODES_MAX, WIDTH_MAX};
+use std::alloc::AllocError;
 use std::fmt;
-use std::fmt::Write;
 
 // Where the statements stand, after the numbers of their nodes.
 const START: usize = 6;
@@ -30,66 +29,87 @@ fn indent(depth: u16) -> usize {
 }
 
 impl Listing<'_> {
-    // How many nodes stand above a node, by the depths of those before it.
-    fn depth_of(&self, i: u16, parent: u16) -> u16 {
-        if i <= parent {
+    // How many nodes stand above a node, by the depths of those before it. Of a parent whose depth is not known it is 0: no
+    // accepted program has such a one.
+    fn depth_below(&self, parent: Option<u16>) -> u16 {
+        let Some(parent) = parent else {
             return 0;
-        }
+        };
         let above = self.depths.get(usize::from(parent)).copied().unwrap_or(0);
         above.saturating_add(1).min(DEEPEST)
     }
 
-    // An IF's second child comes after the word ELSE, which is no node.
-    fn is_else(&self, i: u16, parent: u16) -> bool {
-        parent < i && i - parent != 1 && Statement(self.paper.program().node(parent)).is_if()
-    }
-
-    // An expression at the end of a line, as deep as the line has room for it.
-    fn end_expression(&mut self, e: u16, line: &mut Line) -> Result<(), Error> {
-        let expression = Expression::fitting(self.paper.program(), e, line.room());
-        expression.note_named(&mut self.named);
-        write!(line, "{expression}")?;
-        self.out.end(line)?;
-        Ok(())
-    }
-
-    fn print_node(&mut self, i: u16) -> Result<(), Error> {
-        let node = self.paper.program().node(i);
-        let depth = self.depth_of(i, node.parent);
+    fn keep(&mut self, depth: u16) -> Result<(), AllocError> {
         if self.depths.len() < NODES_MAX {
             self.depths.push(depth)?;
         }
-        let mut line = self.out.line();
-        if self.is_else(i, node.parent) {
-            line.pad_to(indent(depth).saturating_sub(2))?;
-            write!(line, "ELSE")?;
-            self.out.end(&mut line)?;
-        }
-        write!(line, "{i:>4}")?;
-        line.pad_to(indent(depth))?;
-        let statement = Statement(node);
-        write!(line, "{statement}")?;
-        match statement.expression() {
-            Some(e) => self.end_expression(e, &mut line)?,
-            None => self.out.end(&mut line)?,
-        }
         Ok(())
     }
 
-    fn print_nodes(&mut self) -> Result<(), Error> {
+    fn statement(&self, i: u16) -> Statement {
+        Statement(self.paper.program().node(i))
+    }
+
+    // An IF's second child comes after the word ELSE, which is no node.
+    fn is_else(&self, i: u16, parent: Option<u16>) -> bool {
+        match parent {
+            Some(parent) => parent.saturating_add(1) != i && self.statement(parent).is_if(),
+            None => false,
+        }
+    }
+
+    fn print_else(&self, depth: u16) -> fmt::Result {
+        let column = indent(depth).saturating_sub(2);
+        self.out.say(format_args!("{:column$}ELSE", ""))
+    }
+
+    // An expression at the end of a line, as deep as the line has room for it.
+    fn end_expression(&mut self, e: u16, line: &mut Line) -> fmt::Result {
+        let expression = Expression::fitting(self.paper.program(), e, line.room());
+        expression.note_named(&mut self.named);
+        line.put(expression);
+        self.out.end(line)
+    }
+
+    fn print_statement(&mut self, i: u16, depth: u16, statement: Statement) -> fmt::Result {
+        let mut line = self.out.line();
+        line.put(format_args!("{i:>4}"));
+        line.put_at(indent(depth), statement);
+        match statement.expression() {
+            Some(e) => self.end_expression(e, &mut line),
+            None => self.out.end(&mut line),
+        }
+    }
+
+    fn print_node(&mut self, i: u16) -> fmt::Result {
+        let statement = self.statement(i);
+        let parent = statement.parent(i);
+        let depth = self.depth_below(parent);
+        self.keep(depth)?;
+        if self.is_else(i, parent) {
+            self.print_else(depth)?;
+        }
+        self.print_statement(i, depth, statement)
+    }
+
+    fn print_nodes(&mut self) -> fmt::Result {
         for i in 0..self.paper.sizes.nodes {
             self.print_node(i)?;
         }
         Ok(())
     }
 
+    fn print_meaning(&mut self, e: u16) -> fmt::Result {
+        let mut line = self.out.line();
+        line.put(format_args!("{:START$}e{e} is ", ""));
+        self.end_expression(e, &mut line)
+    }
+
     // The expressions that the listing names, from the last to the first: those that they name in turn are lower.
-    fn print_named(&mut self) -> Result<(), Error> {
+    fn print_named(&mut self) -> fmt::Result {
         for e in (0..self.paper.sizes.exprs).rev() {
             if self.named.get(usize::from(e)) == Some(&true) {
-                let mut line = self.out.line();
-                write!(line, "{:START$}e{e} is ", "")?;
-                self.end_expression(e, &mut line)?;
+                self.print_meaning(e)?;
             }
         }
         Ok(())
@@ -107,7 +127,7 @@ fn print_widths(out: Output, widths: &[u16]) -> fmt::Result {
     Ok(())
 }
 
-pub fn print(out: Output, paper: &Paper) -> Result<(), Error> {
+pub fn print(out: Output, paper: &Paper) -> fmt::Result {
     let mut listing = Listing {
         out,
         paper,
@@ -116,6 +136,5 @@ pub fn print(out: Output, paper: &Paper) -> Result<(), Error> {
     };
     listing.print_nodes()?;
     listing.print_named()?;
-    print_widths(out, &paper.widths)?;
-    Ok(())
+    print_widths(out, &paper.widths)
 }

@@ -27,7 +27,7 @@ mod statement; // a statement of a program
 mod table; // the table
 mod text; // counts and lists in words
 
-use arguments::Task;
+use arguments::{Job, Task};
 use decimal::word_of;
 use errors::Error;
 use layout::Paper;
@@ -50,17 +50,31 @@ fn write(files: &impl Files, out: Output, paper: &Paper, target: &[u8]) -> Resul
         let name = target.to_vec(out.alloc)?;
         return Err(Error::Unwritten { name, error });
     }
-    source::print_written(out, contents.len(), target)
+    source::print_written(out, contents.len(), target)?;
+    Ok(())
+}
+
+fn perform(files: &impl Files, out: Output, task: Task) -> Result<(), Error> {
+    let Task { paper, job } = task;
+    let paper = find(files, out, &paper)?;
+    match job {
+        Job::Play(asked) => play(out, paper, asked)?,
+        Job::Write(target) => write(files, out, &paper, &target)?,
+    }
+    Ok(())
+}
+
+fn play_first(out: Output) -> Result<(), Error> {
+    let paper = source::numbered(out.alloc, 1)?;
+    play(out, paper, Asked::default())?;
+    source::print_papers(out)?;
+    Ok(())
 }
 
 fn run(rt: &(impl Env + Files + AllocGlobal), out: Output) -> Result<(), Error> {
     match arguments::asked_task(rt)? {
-        Task::PlayFirst => {
-            play(out, source::numbered(out.alloc, 1)?, Asked::default())?;
-            source::print_papers(out)
-        }
-        Task::Play { name, asked } => play(out, find(rt, out, &name)?, asked),
-        Task::Write { name, target } => write(rt, out, &find(rt, out, &name)?, &target),
+        Some(task) => perform(rt, out, task),
+        None => play_first(out),
     }
 }
 

@@ -36,10 +36,10 @@ impl Order {
 
 impl fmt::Display for Order {
     fn fmt<W: fmt::Write>(&self, f: &mut fmt::Formatter<W>) -> fmt::Result {
-        match self {
-            Order::Ascending => write!(f, "in ascending order"),
-            Order::Descending => write!(f, "in descending order"),
-            Order::Book(_) => write!(f, "in the order of the book"),
-        }
+        f.write_str(match self {
+            Order::Ascending => "in ascending order",
+            Order::Descending => "in descending order",
+            Order::Book(_) => "in the order of the book",
+        })
     }
 }

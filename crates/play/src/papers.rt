@@ -2,7 +2,7 @@
 // are numbers there (`program::kinds`, `program::ops`), and 65535 is the parent of node 0.
 
 // Paper 1 is the first. It is played where none is asked for.
-static PAPERS: [&str; 18] = [
+pub static PAPERS: [&str; 18] = [
     PRODUCER_AND_CONSUMER,
     TWO_COUNTDOWNS,
     SWAP,
@@ -22,11 +22,6 @@ static PAPERS: [&str; 18] = [
     INPUT_OF_1_BIT,
     VALUE_TOO_WIDE,
 ];
-
-// How many papers there are.
-pub fn count() -> u16 {
-    PAPERS.len() as u16
-}
 
 pub fn text_of(paper: u16) -> Option<&'static str> {
     let place = usize::from(paper).checked_sub(1)?;

@@ -1,11 +1,12 @@
 // Plays a paper, in the order and for the cycles that are asked for.
-use super::errors::Error;
 use super::layout::Paper;
 use super::line::Output;
 use super::order::Order;
-use super::text::Counted;
+use super::text::{Counted, Joined};
 use super::{cycles, listing};
+use paper::FileSizes;
 use std::alloc::AllocError;
+use std::fmt;
 
 // What is asked for in place of the paper's own order and cycles.
 #[derive(Default, Drop)]
@@ -23,31 +24,35 @@ fn own_order(paper: &Paper) -> Result<Order, AllocError> {
     }
 }
 
-fn print_head(out: Output, paper: &mut Paper, order: &Order, cycles: u16) -> Result<(), Error> {
-    out.end(&mut paper.heading)?;
-    let sizes = paper.sizes;
-    out.say(format_args!(
-        "{}, {}, {}, {}; {} asked, {order}",
+fn print_sizes(out: Output, sizes: FileSizes, cycles: u16, order: &Order) -> fmt::Result {
+    let counts = [
         Counted::new(sizes.nodes, "node"),
         Counted::new(sizes.exprs, "expression"),
         Counted::new(sizes.vars, "variable"),
         Counted::new(sizes.chans, "channel"),
+    ];
+    out.say(format_args!(
+        "{}; {} asked, {order}",
+        Joined::new(&counts, 4, ", "),
         Counted::new(cycles, "cycle"),
-    ))?;
+    ))
+}
+
+fn print_and_play(out: Output, paper: &mut Paper, order: &Order, cycles: u16) -> fmt::Result {
+    out.end(&mut paper.heading)?;
+    print_sizes(out, paper.sizes, cycles, order)?;
     out.say("")?;
-    Ok(())
+    listing::print(out, paper)?;
+    out.say("")?;
+    cycles::play(out, paper, order, cycles)
 }
 
 // Prints and plays a paper.
-pub fn play(out: Output, mut paper: Paper, asked: Asked) -> Result<(), Error> {
-    let Asked { order, cycles } = asked;
-    let order = match order {
+pub fn play(out: Output, mut paper: Paper, asked: Asked) -> fmt::Result {
+    let cycles = asked.cycles.unwrap_or(paper.cycles);
+    let order = match asked.order {
         Some(order) => order,
         None => own_order(&paper)?,
     };
-    let cycles = cycles.unwrap_or(paper.cycles);
-    print_head(out, &mut paper, &order, cycles)?;
-    listing::print(out, &paper)?;
-    out.say("")?;
-    cycles::play(out, &paper, &order, cycles)
+    print_and_play(out, &mut paper, &order, cycles)
 }

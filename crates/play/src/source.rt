@@ -3,25 +3,24 @@ use super::decimal::words_in;
 use super::errors::{Error, Fault};
 use super::layout::{Paper, WORDS};
 use super::line::{Line, Output};
+use super::papers::PAPERS;
+use super::text::until;
 use super::{file, machine, papers};
 use std::alloc::Global;
 use std::fmt;
-use std::fmt::Write;
 use std::rt::Files;
 
 // The title of a paper: its first line, if that is a comment.
 fn title_of(text: &[u8]) -> Option<&[u8]> {
-    let first = text.split(|byte| *byte == b'\n').next()?;
-    let comment = first.strip_prefix(b"#".as_slice())?;
+    let comment = until(text, b'\n').strip_prefix(b"#".as_slice())?;
     Some(comment.get(1..).unwrap_or(&[]))
 }
 
-fn put_title(text: &[u8], before: &str, line: &mut Line) -> fmt::Result {
+fn put_title(text: &[u8], before: &str, line: &mut Line) {
     if let Some(title) = title_of(text) {
-        write!(line, "{before}")?;
-        line.put_readable(title)?;
+        line.put(before);
+        line.put_readable(title);
     }
-    Ok(())
 }
 
 // The paper that a text says.
@@ -30,32 +29,39 @@ fn read_text(alloc: Global, heading: Line, text: &[u8]) -> Result<Paper, Fault> 
     Paper::new(alloc, heading, &words)
 }
 
+// The paper that the text under a name says. Its title comes after what the heading has.
+fn in_text(alloc: Global, name: &[u8], mut heading: Line, text: &[u8]) -> Result<Paper, Error> {
+    put_title(text, ": ", &mut heading);
+    read_text(alloc, heading, text).map_err(|fault| Error::in_file(alloc, name, fault))
+}
+
 // ---- the papers that come with the program
 
 pub fn numbered(alloc: Global, paper: u16) -> Result<Paper, Error> {
     let Some(text) = papers::text_of(paper) else {
         return Err(Error::NoPaper(paper));
     };
-    let text = text.as_bytes();
     let mut heading = Line::new(alloc);
-    write!(heading, "Paper {paper}")?;
-    put_title(text, ": ", &mut heading)?;
-    read_text(alloc, heading, text).map_err(|fault| Error::in_file(alloc, b"paper", fault))
+    heading.put(format_args!("Paper {paper}"));
+    in_text(alloc, b"paper", heading, text.as_bytes())
+}
+
+fn print_paper(out: Output, paper: u16, text: &str) -> fmt::Result {
+    let mut line = out.line();
+    line.put(format_args!("{paper:>4}"));
+    put_title(text.as_bytes(), "  ", &mut line);
+    out.end(&mut line)
 }
 
 // The papers after the first.
-pub fn print_papers(out: Output) -> Result<(), Error> {
+pub fn print_papers(out: Output) -> fmt::Result {
     out.say("")?;
     out.say(
         "Other papers: ./play 3 plays paper 3, ./play 3 down in descending order, ./play 3 2,1 by the book",
     )?;
     out.say("2,1, and ./play FILE a paper from a file, as those in examples/.")?;
-    let mut line = out.line();
-    for paper in 2..=papers::count() {
-        let text = papers::text_of(paper).unwrap_or("");
-        write!(line, "{paper:>4}")?;
-        put_title(text.as_bytes(), "  ", &mut line)?;
-        out.end(&mut line)?;
+    for (paper, text) in (1..u16::MAX).zip(PAPERS.iter()).skip(1) {
+        print_paper(out, paper, text)?;
     }
     Ok(())
 }
@@ -68,25 +74,28 @@ fn is_of_words(contents: &[u8]) -> bool {
     contents.contains(&0)
 }
 
-pub fn in_file(files: &impl Files, alloc: Global, name: &[u8]) -> Result<Paper, Error> {
-    let contents = file::read(files, alloc, name).map_err(|fault| Error::in_file(
-        alloc, name, fault,
-    ))?;
+fn in_contents(alloc: Global, name: &[u8], contents: &[u8]) -> Result<Paper, Error> {
     let mut heading = Line::new(alloc);
-    heading.put_readable(name)?;
-    if is_of_words(&contents) {
-        return machine::read(alloc, heading, &contents);
+    heading.put_readable(name);
+    if is_of_words(contents) {
+        machine::read(alloc, heading, contents)
+    } else {
+        in_text(alloc, name, heading, contents)
     }
-    put_title(&contents, ": ", &mut heading)?;
-    read_text(alloc, heading, &contents).map_err(|fault| Error::in_file(alloc, name, fault))
+}
+
+pub fn in_file(files: &impl Files, alloc: Global, name: &[u8]) -> Result<Paper, Error> {
+    match file::read(files, alloc, name) {
+        Ok(contents) => in_contents(alloc, name, &contents),
+        Err(fault) => Err(Error::in_file(alloc, name, fault)),
+    }
 }
 
 // That so many bytes are written to a file.
-pub fn print_written(out: Output, count: usize, target: &[u8]) -> Result<(), Error> {
+pub fn print_written(out: Output, count: usize, target: &[u8]) -> fmt::Result {
     let mut line = out.line();
-    write!(line, "{count} bytes are written to ")?;
-    line.put_readable(target)?;
-    write!(line, ".")?;
-    out.end(&mut line)?;
-    Ok(())
+    line.put(format_args!("{count} bytes are written to "));
+    line.put_readable(target);
+    line.put(".");
+    out.end(&mut line)
 }

@@ -1,4 +1,4 @@
-// The state of a run.
+// The state of a run. The player takes it as three lists, by its interface.
 use super::layout::Paper;
 use std::alloc::{AllocError, Global};
 
@@ -24,8 +24,7 @@ impl State {
     pub fn active(&self, alloc: Global) -> Result<Vec<u16>, AllocError> {
         (0..u16::MAX)
             .zip(self.marks.iter())
-            .filter(|(_, mark)| **mark != 0)
-            .map(|(node, _)| node)
+            .filter_map(|(node, mark)| (*mark != 0).then_some(node))
             .collect(alloc)
     }
 }

@@ -10,6 +10,11 @@ impl Statement {
         Kind::try_from(self.0.kind)
     }
 
+    // The node above it, where it is node i.
+    pub fn parent(self, i: u16) -> Option<u16> {
+        (self.0.parent < i).then_some(self.0.parent)
+    }
+
     pub fn is_if(self) -> bool {
         self.kind() == Ok(Kind::If)
     }
@@ -22,22 +27,28 @@ impl Statement {
             _ => None,
         }
     }
+
+    fn put_leaf<W: fmt::Write>(self, leaf: Leaf, f: &mut fmt::Formatter<W>) -> fmt::Result {
+        let Node { a, b, .. } = self.0;
+        match leaf {
+            Leaf::Asg => write!(f, "v{a} := "),
+            Leaf::In => write!(f, "IN c{a} v{b}"),
+            Leaf::Out => write!(f, "OUT c{a} "),
+            Leaf::Dly => f.write_str("DLY"),
+        }
+    }
 }
 
 // What stands before the expression.
 impl fmt::Display for Statement {
     fn fmt<W: fmt::Write>(&self, f: &mut fmt::Formatter<W>) -> fmt::Result {
-        let Node { kind, a, b, .. } = self.0;
         match self.kind() {
-            Ok(Kind::Seq) => write!(f, "SEQ"),
-            Ok(Kind::Par) => write!(f, "PAR"),
-            Ok(Kind::Leaf(Leaf::Asg)) => write!(f, "v{a} := "),
-            Ok(Kind::Leaf(Leaf::In)) => write!(f, "IN c{a} v{b}"),
-            Ok(Kind::Leaf(Leaf::Out)) => write!(f, "OUT c{a} "),
-            Ok(Kind::If) => write!(f, "IF "),
-            Ok(Kind::Whl) => write!(f, "WHL "),
-            Ok(Kind::Leaf(Leaf::Dly)) => write!(f, "DLY"),
-            Err(UnknownKind) => write!(f, "kind {kind}"),
+            Ok(Kind::Leaf(leaf)) => self.put_leaf(leaf, f),
+            Ok(Kind::Seq) => f.write_str("SEQ"),
+            Ok(Kind::Par) => f.write_str("PAR"),
+            Ok(Kind::If) => f.write_str("IF "),
+            Ok(Kind::Whl) => f.write_str("WHL "),
+            Err(UnknownKind) => write!(f, "kind {}", self.0.kind),
         }
     }
 }

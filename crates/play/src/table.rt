@@ -1,14 +1,14 @@
 // The table: a row for each cycle. Where a row has more than a line can show, it goes on below in the same columns.
 ghost use Rattle.std.specs.Prelude.{◌<◌, ◌≤◌};
 
-use super::errors::Error;
 use super::line::{Line, Output, WIDTH, length_of};
 use super::state::State;
 use super::text::Joined;
 use paper::FileSizes;
 use std::alloc::{AllocError, Global};
 use std::fmt;
-use std::fmt::{Display, Write};
+use std::fmt::Display;
+use std::ops::Range;
 
 // Where the values start, and how wide the column of one is.
 const VALUES_AT: usize = 5;
@@ -40,18 +40,17 @@ impl Column {
     }
 
     // What line j has of a list. It has an index: another list stands beside it, and line LINES - 1 tells how many are left.
-    fn put<T: Display>(self, list: &[T], j: usize, line: &mut Line) -> fmt::Result {
+    fn put<T: Display>(self, list: &[T], j: usize, line: &mut Line) {
         let left = list.get(j.saturating_mul(self.per_line)..).unwrap_or(&[]);
         if (left.is_empty() & (0 < j)) | (LINES <= j) {
-            return Ok(());
+            return;
         }
-        line.pad_to(self.at)?;
         if left.is_empty() {
-            write!(line, "-")
+            line.put_at(self.at, "-");
         } else if (j == LINES - 1) & (self.per_line < left.len()) {
-            write!(line, "and {} more", left.len())
+            line.put_at(self.at, format_args!("and {} more", left.len()));
         } else {
-            write!(line, "{}", Joined::new(left, self.per_line, self.between))
+            line.put_at(self.at, Joined::new(left, self.per_line, self.between));
         }
     }
 }
@@ -69,45 +68,44 @@ impl Display for Par {
     }
 }
 
+// It is not one with the search for the active statements: what is tested and what is made of it would both be closures.
 fn pars_in(alloc: Global, counts: &[u16]) -> Result<Vec<Par>, AllocError> {
     (0..u16::MAX)
         .zip(counts.iter())
-        .filter(|(_, count)| **count != 0)
-        .map(|(node, count)| Par {
+        .filter_map(|(node, count)| (*count != 0).then_some(Par {
             node,
             count: *count,
-        })
+        }))
         .collect(alloc)
 }
 
-// How many numbers of so many digits a line lists, and the room that they take, with the blanks between them.
-fn numbers_of_line(digits: usize) -> (usize, usize)
+// How many of so many nodes a line lists, and the room that their numbers take, with the blanks between them.
+fn nodes_of_line(nodes: u16) -> (usize, usize)
     ensures some { 0 < result.0 }
     ensures narrow { result.1 ≤ 30 }
 {
-    match digits {
-        1 => (8, 16),
-        2 => (8, 24),
-        3 => (5, 20),
-        4 => (5, 25),
+    match nodes {
+        0..=9 => (8, 16),
+        10..=99 => (8, 24),
+        100..=999 => (5, 20),
+        1000..=9999 => (5, 25),
         _ => (5, 30),
     }
 }
 
-fn put_values(values: &[u16], line: &mut Line) -> fmt::Result {
-    line.pad_to(VALUES_AT)?;
+fn put_values(values: &[u16], line: &mut Line) {
+    line.pad_to(VALUES_AT);
     for value in values {
-        write!(line, "{value:>VALUE_WIDTH$}")?;
+        line.put(format_args!("{value:>VALUE_WIDTH$}"));
     }
-    Ok(())
 }
 
-// The names of variables above their values.
-fn put_names(vars: &[u16], line: &mut Line) -> fmt::Result {
-    line.pad_to(VALUES_AT)?;
-    for v in vars {
-        let width = VALUE_WIDTH.saturating_sub(length_of(*v));
-        write!(line, "{:>width$}{v}", 'v')?;
+// The names of the variables of a line, above their values.
+fn put_names(vars: Range<u16>, line: &mut Line) -> fmt::Result {
+    line.pad_to(VALUES_AT);
+    for v in vars.take(VALUES) {
+        let width = VALUE_WIDTH.saturating_sub(length_of(v)?);
+        line.put(format_args!("{:>width$}{v}", 'v'));
     }
     Ok(())
 }
@@ -123,7 +121,7 @@ pub struct Table {
 impl Table {
     pub fn new(out: Output, sizes: FileSizes) -> Table {
         let values = usize::from(sizes.vars).min(VALUES);
-        let (per_line, width) = numbers_of_line(length_of(sizes.nodes));
+        let (per_line, width) = nodes_of_line(sizes.nodes);
         let active = Column {
             at: VALUES_AT + VALUE_WIDTH * values + 3,
             per_line,
@@ -143,40 +141,40 @@ impl Table {
         }
     }
 
-    pub fn print_head(self) -> Result<(), Error> {
-        let vars: Vec<u16> = (0..self.vars).collect(self.out.alloc)?;
-        let mut of_lines = vars.chunks(VALUES);
+    // The heads of the columns, with the names of the variables in the first line.
+    fn put_heads(self, line: &mut Line) -> fmt::Result {
+        line.put("cycle");
+        put_names(0..self.vars, line)?;
+        line.put_at(self.active.at, "active");
+        line.put_at(self.threads.at, "threads");
+        Ok(())
+    }
+
+    pub fn print_head(self) -> fmt::Result {
         let mut line = self.out.line();
-        write!(line, "cycle")?;
-        put_names(of_lines.next().unwrap_or(&[]), &mut line)?;
-        line.pad_to(self.active.at)?;
-        write!(line, "active")?;
-        line.pad_to(self.threads.at)?;
-        write!(line, "threads")?;
+        self.put_heads(&mut line)?;
         self.out.end(&mut line)?;
-        for vars in of_lines {
-            put_names(vars, &mut line)?;
+        for first in (0..self.vars).step_by(VALUES).skip(1) {
+            put_names(first..self.vars, &mut line)?;
             self.out.end(&mut line)?;
         }
         Ok(())
     }
 
-    // The state before a cycle.
-    pub fn print_row(self, cycle: u16, state: &State, active: &[u16]) -> Result<(), Error> {
+    // A state, with the active statements in an order. The label is that of a cycle, or of what is after the last.
+    pub fn print_row(
+        self,
+        label: impl Display + Drop,
+        state: &State,
+        active: &[u16],
+    ) -> fmt::Result {
         let mut line = self.out.line();
-        write!(line, "{cycle:>VALUES_AT$}")?;
+        line.put(format_args!("{label:>VALUES_AT$}"));
         self.print_state(state, active, &mut line)
     }
 
-    // The state after the last cycle.
-    pub fn print_last_row(self, state: &State, active: &[u16]) -> Result<(), Error> {
-        let mut line = self.out.line();
-        write!(line, "after")?;
-        self.print_state(state, active, &mut line)
-    }
-
-    // A state, from a line on in which its label stands already, with the active statements in an order.
-    fn print_state(self, state: &State, active: &[u16], line: &mut Line) -> Result<(), Error> {
+    // A state, from a line on in which its label stands already.
+    fn print_state(self, state: &State, active: &[u16], line: &mut Line) -> fmt::Result {
         let pars = pars_in(self.out.alloc, &state.counts)?;
         let of_lists = self
             .active
@@ -184,9 +182,9 @@ impl Table {
             .max(self.threads.lines_for(pars.len()));
         let mut values = state.values.chunks(VALUES);
         for j in 0..values.len().max(of_lists).max(1) {
-            put_values(values.next().unwrap_or(&[]), line)?;
-            self.active.put(active, j, line)?;
-            self.threads.put(&pars, j, line)?;
+            put_values(values.next().unwrap_or(&[]), line);
+            self.active.put(active, j, line);
+            self.threads.put(&pars, j, line);
             self.out.end(line)?;
         }
         Ok(())

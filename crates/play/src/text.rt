@@ -1,4 +1,4 @@
-// Texts of more than one place: a count of things, and a list.
+// Texts of more than one place: a count of things, a list, what may be left out, and the start of a text.
 use std::fmt;
 use std::fmt::Display;
 
@@ -17,12 +17,8 @@ impl Counted {
 
 impl Display for Counted {
     fn fmt<W: fmt::Write>(&self, f: &mut fmt::Formatter<W>) -> fmt::Result {
-        write!(f, "{} {}", self.count, self.thing)?;
-        if self.count == 1 {
-            Ok(())
-        } else {
-            write!(f, "s")
-        }
+        let plural = if self.count == 1 { "" } else { "s" };
+        write!(f, "{} {}{plural}", self.count, self.thing)
     }
 }
 
@@ -47,11 +43,36 @@ impl<'a, T> Joined<'a, T> {
 impl<T: Display> Display for Joined<'_, T> {
     fn fmt<W: fmt::Write>(&self, f: &mut fmt::Formatter<W>) -> fmt::Result {
         for (i, item) in self.items.iter().take(self.most).enumerate() {
-            if 0 < i {
-                write!(f, "{}", self.between)?;
-            }
-            write!(f, "{item}")?;
+            let between = if i == 0 { "" } else { self.between };
+            write!(f, "{between}{item}")?;
         }
         Ok(())
     }
+}
+
+// A value after a text, or nothing where there is no value.
+#[derive(Drop)]
+pub struct After<T> {
+    before: &'static str,
+    value: Option<T>,
+}
+
+impl<T> After<T> {
+    pub fn new(before: &'static str, value: Option<T>) -> After<T> {
+        After { before, value }
+    }
+}
+
+impl<T: Display> Display for After<T> {
+    fn fmt<W: fmt::Write>(&self, f: &mut fmt::Formatter<W>) -> fmt::Result {
+        match &self.value {
+            Some(value) => write!(f, "{}{value}", self.before),
+            None => Ok(()),
+        }
+    }
+}
+
+// What stands before the first byte of a kind, or all of a text that has none.
+pub fn until(text: &[u8], end: u8) -> &[u8] {
+    text.split(|byte| *byte == end).next().unwrap_or(text)
 }
