@@ -50,7 +50,7 @@ pub enum Error {
     Refused(Refusal),
 }
 
-// There is a From for each type of error: one From for several would need a trait of ours that the types of std do not have.
+// There is a From for each type of error: one for several would need a trait that these types of std have.
 impl From<AllocError> for Fault {
     fn from(_error: AllocError) -> Fault {
         Fault::OutOfMemory

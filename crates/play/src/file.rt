@@ -28,7 +28,7 @@ fn open<R: Files>(files: &R, name: &[u8]) -> io::Result<R::File> {
 // A file's bytes, as many as are read. What has been read before a read fails is taken for all.
 fn read_all(alloc: Global, file: impl Read + Drop) -> Result<Vec<u8>, Fault> {
     let mut contents = Vec::with_capacity(alloc, BYTES.most + 1)?;
-    // There is no From from a usize into a u64.
+    // No From makes a u64 of a usize.
     let outcome = file.take(BYTES.most as u64 + 1).read_to_end(&mut contents);
     if contents.is_empty() {
         outcome?;

@@ -66,7 +66,7 @@ impl Line {
         self.put(text);
     }
 
-    // What is put so far.
+    // What is put so far, if memory was there for it.
     pub fn text(&self) -> Result<&[u8], fmt::Error> {
         self.outcome?;
         Ok(self.text.as_slice())

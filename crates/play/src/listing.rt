@@ -29,8 +29,8 @@ fn indent(depth: u16) -> usize {
 }
 
 impl Listing<'_> {
-    // How many nodes stand above a node, by the depths of those before it. Of a parent whose depth is not known it is 0: no
-    // accepted program has such a one.
+    // How many nodes stand above a node, by the depths of those before it. A parent whose depth is not known counts as one at
+    // depth 0: no accepted program has such a one.
     fn depth_below(&self, parent: Option<u16>) -> u16 {
         let Some(parent) = parent else {
             return 0;
@@ -39,6 +39,7 @@ impl Listing<'_> {
         above.saturating_add(1).min(DEEPEST)
     }
 
+    // Keeps the depth of the next node.
     fn keep(&mut self, depth: u16) -> Result<(), AllocError> {
         if self.depths.len() < NODES_MAX {
             self.depths.push(depth)?;
@@ -99,6 +100,7 @@ impl Listing<'_> {
         Ok(())
     }
 
+    // What a name stands for.
     fn print_meaning(&mut self, e: u16) -> fmt::Result {
         let mut line = self.out.line();
         line.put(format_args!("{:START$}e{e} is ", ""));

@@ -1,4 +1,4 @@
-// The state of a run. The player takes it as three lists, by its interface.
+// The state of a run. Its lists stand side by side, since the player's calls take them so.
 use super::layout::Paper;
 use std::alloc::{AllocError, Global};
 

@@ -72,7 +72,7 @@ impl<T: Display> Display for After<T> {
     }
 }
 
-// What stands before the first byte of a kind, or all of a text that has none.
+// What stands in a text before the first of a byte, or all of it where that byte is not there.
 pub fn until(text: &[u8], end: u8) -> &[u8] {
     text.split(|byte| *byte == end).next().unwrap_or(text)
 }
