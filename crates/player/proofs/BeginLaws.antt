@@ -21,7 +21,8 @@ use Rattle.program.specs.Refusals.{question_number}
 use Rattle.program.specs.Answer.{number_of, item_of, answer_to}
 use Rattle.player.specs.Begin.{BeginAnswer}
 use Rattle.player.specs.Root.{WrittenUnlessLooped}
-use Rattle.player.proofs.FirstNoLaws.{FirstNo, not_zero}
+use Rattle.program.proofs.AnswerLaws.{number_not_0}
+use Rattle.player.proofs.FirstNoLaws.{FirstNo}
 
 module _ (P : Program) (s : State) where
   -- the questions of begin, and its answer when the first no has number q
@@ -60,7 +61,7 @@ module _ (P : Program) (s : State) where
   pub refused : (r : Result ⊤ Refusal) (refusal : Refusal) → IsErr r × IsErrAnd r (λ x. x ≡ refusal)
       → FirstNo P later refusal → BeginAnswer P s (number_of r) (item_of r) s.marks s.counts
   refused (Ok _) refusal passed f = absurd passed.1
-  refused (Err _) refusal passed f = rw passed.1 (stays (question_number refusal) f.first (not_zero refusal) f.item)
+  refused (Err _) refusal passed f = rw passed.1 (stays (question_number refusal) f.first (number_not_0 refusal) f.item)
 
   -- question 10, and where it is answered yes, marks and counts of entering node 0
   pub answer_written : check_number P ≡ 0 → lengths_ok P s ≡ true → values_in_range P.widths s.values ≡ true

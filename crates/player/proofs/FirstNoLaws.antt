@@ -1,6 +1,5 @@
 -- The first question answered no in begin and in run, where it is one of check's, or 5 or 6 after them.
-use Rattle.std.proofs.Common.{◌≡◌, Bool, true, false, eqb, List, ◌∷◌, ◌++◌, Err, refl, sym, ◌∙◌, arith}
-use borrow.Author.Tests.{ne_eqb}
+use Rattle.std.proofs.Common.{◌≡◌, Bool, true, false, List, ◌∷◌, ◌++◌, Err, refl, sym, ◌∙◌}
 use Rattle.semantics.specs.Program.{Program}
 use Rattle.semantics.specs.Questions.{Question, ask, first_no}
 use Rattle.semantics.specs.Check.{check_questions, check_number, fault_item}
@@ -10,21 +9,18 @@ use Rattle.program.specs.declared.refusal.Refusal.{Refusal}
 use Rattle.program.specs.declared.refusal.Refusal.TheVariants.{Lengths, State}
 use Rattle.program.specs.Refusals.{question_number, fault_in}
 use Rattle.program.specs.Answer.{CheckAnswer, answer_to}
-use Rattle.program.proofs.AnswerLaws.{check_item_lem, some_number, answer_to-err}
+use Rattle.program.proofs.AnswerLaws.{check_item_lem, number_not_0, answer_to-err}
 
 -- the refusal is that of the first question answered no, in check or after it
 pub record FirstNo (P : Program) (later : List Question) (refusal : Refusal) : Type 0 where
   pub first : first_no (check_questions P ++ later) ≡ question_number refusal
   pub item : fault_item P (question_number refusal) ≡ fault_in refusal
 
-pub not_zero : (refusal : Refusal) → eqb (question_number refusal) 0 ≡ false
-not_zero refusal = ne_eqb (question_number refusal) 0 (λ z. let some = some_number refusal in omega arith)
-
 -- what check refuses
 pub no_check : {P : Program} {refusal : Refusal} (later : List Question)
     → CheckAnswer P (question_number refusal) (fault_in refusal) → FirstNo P later refusal
 no_check {P} {refusal} later c = record {
-  first = after_check P later (question_number refusal) c.right_number ∙ rw (not_zero refusal) refl;
+  first = after_check P later (question_number refusal) c.right_number ∙ rw (number_not_0 refusal) refl;
   item = check_item_lem c;
 }
 

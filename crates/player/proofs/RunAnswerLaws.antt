@@ -20,7 +20,8 @@ use Rattle.program.specs.declared.refusal.Refusal.{Refusal}
 use Rattle.program.specs.Refusals.{question_number}
 use Rattle.player.specs.declared.Stopped.{Stopped}
 use Rattle.player.specs.Run.{RunAnswer, number_of_run, item_of_run, worked_by}
-use Rattle.player.proofs.FirstNoLaws.{FirstNo, not_zero}
+use Rattle.program.proofs.AnswerLaws.{number_not_0}
+use Rattle.player.proofs.FirstNoLaws.{FirstNo}
 
 abbrev later : Program → State → List Question
 later P s = ask 5 (lengths_ok P s) ∷ ask 6 (well_formed P s) ∷ []
@@ -51,7 +52,7 @@ module _ {P : Program} {n : ℕ} {s : State} {book : List ℕ} where
       → IsErr r × IsErrAnd r (λ x. x ≡ record { refusal = refusal; worked = 0 }) → FirstNo P (later P s) refusal
       → RunAnswer P n s book (number_of_run r) (item_of_run r) (worked_by r) s
   refused (Ok _) refusal passed f = absurd passed.1
-  refused (Err _) refusal passed f = rw passed.1 (stays (question_number refusal) f.first (not_zero refusal) f.item)
+  refused (Err _) refusal passed f = rw passed.1 (stays (question_number refusal) f.first (number_not_0 refusal) f.item)
 
   -- the cycles of an accepted program come with no item
   pub answer_cycles : check_number P ≡ 0 → {q k : ℕ} {s' : State} → run_answer P n s book ≡ answer P q k s'

@@ -4,7 +4,8 @@ ghost use Rattle.std.specs.Prelude.{◌<◌};
 
 use program::ChanId;
 
-// How many slots there are: as many as channels, and as many as variables.
+// How many slots there are: as many as channels, and as many as variables. Each method asks a slot below: a type of such
+// numbers would be made at each call, by a proof of the same: no plainer. So it is with expressions in memo.rt.
 const SLOTS: usize = 256;
 
 #[derive(Clone, Copy, Debug)]

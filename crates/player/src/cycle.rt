@@ -1,4 +1,5 @@
-// One cycle, by the next entries of the book. It works in the lent lists; a refused cycle is taken back.
+// One cycle, by the next entries of the book. It works in the lent lists; a refused cycle is taken back. `Fresh` holds of claims
+// at its start alone, and `Runnable` and `Carried` are said of a program and what is lent: so no field says them.
 ghost use Rattle.std.specs.Prelude.{◌≡◌, cond, ltb, length, replicate};
 ghost use Rattle.semantics.specs.Program.{node_count};
 ghost use Rattle.program.specs.Accepted.{accepted_in};

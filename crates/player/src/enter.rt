@@ -1,4 +1,4 @@
-// Entering a node.
+// Entering a node. `Walking` is said of a program, two lent lists and a `Work`, of which none has the others: so no field says it.
 ghost use Rattle.std.specs.Prelude.{◌≡◌, ◌<◌};
 ghost use Rattle.semantics.specs.Program.{node_count, kind_at, a_at};
 ghost use Rattle.semantics.specs.Program.Kind.{SEQ, PAR};

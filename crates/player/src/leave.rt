@@ -1,4 +1,5 @@
-// Leaving a node, a climb: each turn leaves one node.
+// Leaving a node, a climb: each turn leaves one node. `Climbing` is said of a program and a `Work`, `Walking` of the lent lists
+// besides: none has the others, so that no field says it.
 ghost use Rattle.std.specs.Prelude.{◌≡◌, ◌<◌, ℕ};
 ghost use Rattle.std.proofs.Math.Option.{some};
 ghost use Rattle.semantics.specs.Program.{node_count, kind_at};

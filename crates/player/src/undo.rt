@@ -1,5 +1,6 @@
 // The marks and counts before a cycle that question 10 refuses. The entries were the marked nodes, and in a well-formed
-// state the counts follow from the marks: neither has to be kept.
+// state the counts follow from the marks: neither has to be kept. `ListsFit` is said of a program and lent lists: no field says
+// it.
 ghost use Rattle.std.specs.Prelude.{◌≡◌, cond, ℕ, ◌<◌, length, get_or, replicate};
 ghost use Rattle.semantics.specs.Program.{node_count, is_par};
 ghost use Rattle.program.specs.Kinds.{rule_kind};
