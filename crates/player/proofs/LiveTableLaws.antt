@@ -120,10 +120,11 @@ pub record Passed (nodes marks counts : List ℕ) (i : ℕ) (live : List ℕ) : 
   pub right : (j : ℕ) → i ≤ j → j < node_count nodes → locally_ok nodes marks counts j ≡ true
 
 module _ {P : Program} {marks counts : List ℕ} (lists : ListsFit P marks counts) where
-  pub pass_start : Passed P.nodes marks counts (length marks) (replicate 1024 0)
-  pass_start =
+  pub pass_start : {live : List ℕ} → LiveTable P.nodes marks (node_count P.nodes) live
+      → Passed P.nodes marks counts (length marks) live
+  pass_start table =
       rw lists.marks_fit
-      (record { within = le_refl (node_count P.nodes); table = table_start lists; right = λ j v f. absurd (omega arith) })
+      (record { within = le_refl (node_count P.nodes); table = table; right = λ j v f. absurd (omega arith) })
 
   module _ {i : ℕ} {live : List ℕ} (passed : Passed P.nodes marks counts (suc i) live) where
     -- what the code asks of node i is what question 6 asks of it

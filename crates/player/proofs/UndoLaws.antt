@@ -7,7 +7,7 @@ use Prim.Native.Nat.{ℕ, suc, ◌≤◌, ◌<◌}
 use native.Mathlib.Nat.{le_refl}
 use native.Mathlib.Omega.{arith}
 use lib.Dec.{ltb}
-use lib.ListN.{length, get_or, set, replicate, length-set}
+use lib.ListN.{length, get_or, set, length-set}
 use lib.Seq.{ext_get_or}
 use borrow.Author.Tests.{eqb-true}
 use Rattle.semantics.specs.Program.{Program, node_count, is_par, kind_at}
@@ -18,7 +18,7 @@ use Rattle.semantics.proofs.Lists.ListLaws.{set_reads}
 use Rattle.semantics.proofs.Tree.WellFormedOnTree.{control_formed-in}
 use Rattle.semantics.proofs.Order.InRange.{control_formed_lem}
 use Rattle.player.specs.WellFormed.{ListsFit, added_to_parent, LiveTable, count_from}
-use Rattle.player.proofs.LiveTableLaws.{table_start, own_live, table_step}
+use Rattle.player.proofs.LiveTableLaws.{own_live, table_step}
 
 -- ---- the nodes from i on are counted, and added to the table
 pub record Recounted (nodes marks : List ℕ) (i : ℕ) (counts live : List ℕ) : Type 0 where
@@ -27,14 +27,14 @@ pub record Recounted (nodes marks : List ℕ) (i : ℕ) (counts live : List ℕ)
   pub table : LiveTable nodes marks i live
   pub right : (j : ℕ) → i ≤ j → j < node_count nodes → get_or counts j 0 ≡ count_from nodes marks j
 
-pub recount_start : {P : Program} {marks counts : List ℕ} → ListsFit P marks counts
-    → Recounted P.nodes marks (length marks) counts (replicate 1024 0)
-recount_start {P} lists =
+pub recount_start : {P : Program} {marks counts live : List ℕ} → ListsFit P marks counts
+    → LiveTable P.nodes marks (node_count P.nodes) live → Recounted P.nodes marks (length marks) counts live
+recount_start {P} lists table =
     rw lists.marks_fit
     (record {
       within = le_refl (node_count P.nodes);
       size = lists.counts_fit;
-      table = table_start lists;
+      table = table;
       right = λ j v f. absurd (omega arith);
     })
 

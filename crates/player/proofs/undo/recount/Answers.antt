@@ -1,10 +1,10 @@
 -- `recount` counts one node a turn.
-use Rattle.player.proofs.LiveTableLaws.{turn, parent_fits}
+use Rattle.player.proofs.LiveTableLaws.{table_start, turn, parent_fits}
 use Rattle.player.proofs.UndoLaws.{recount_start, recount_step}
 use Rattle.player.proofs.undo.recount.Goals as goal
 
 pub loop-at-init : goal.loop-at-init
-loop-at-init c = recount_start c.requires
+loop-at-init c = recount_start c.requires (table_start c.requires)
 
 pub add_to_parent-requires : goal.add_to_parent-requires
 add_to_parent-requires c =

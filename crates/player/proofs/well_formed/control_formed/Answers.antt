@@ -1,10 +1,10 @@
 -- `control_formed` asks each node by itself.
 use Rattle.std.proofs.Common.{◌≡◌, ◌-◌, sym, ◌∙◌, arith}
-use Rattle.player.proofs.LiveTableLaws.{turn, pass_start, asks_right, pass_fits, pass_step, all_asked, not_formed}
+use Rattle.player.proofs.LiveTableLaws.{table_start, turn, pass_start, asks_right, pass_fits, pass_step, all_asked, not_formed}
 use Rattle.player.proofs.well_formed.control_formed.Goals as goal
 
 pub loop-at-init : goal.loop-at-init
-loop-at-init c = pass_start c.requires
+loop-at-init c = pass_start c.requires (table_start c.requires)
 
 pub returns-then-not-node_well_formed : goal.returns-then-not-node_well_formed
 returns-then-not-node_well_formed c =
