@@ -8,7 +8,7 @@ ghost use Rattle.player.specs.Run.{RunAnswer, number_of_run, item_of_run, worked
 
 use crate::Stopped;
 use program::Program;
-use program::word::word_of_answer;
+use program::word::{word_of, word_of_answer};
 
 pub fn player_check(exprs: &[u16], nodes: &[u16], widths: &[u16], vars: u16, chans: u16) -> u32
     ensures { CheckAnswer (program_of exprs.now nodes.now widths.now vars chans) (number_in result) (item_in result) }
@@ -46,7 +46,6 @@ pub fn player_begin(
     word_of_answer(crate::begin(program, values, marks, counts))
 }
 
-// It packs a third part; made of `word_of` it would be no shorter.
 fn word_of_run(ran: Result<u16, Stopped>) -> u64
     ensures number { number_in result ≡ number_of_run ran }
     ensures item { item_of_run_in result ≡ item_of_run ran }
@@ -55,9 +54,7 @@ fn word_of_run(ran: Result<u16, Stopped>) -> u64
     match ran {
         Ok(worked) => 4294967296 * u64::from(worked),
         Err(Stopped { refusal, worked }) => {
-            u64::from(refusal.number())
-                + 65536 * u64::from(refusal.item())
-                + 4294967296 * u64::from(worked)
+            u64::from(word_of(refusal.number(), refusal.item())) + 4294967296 * u64::from(worked)
         }
     }
 }
