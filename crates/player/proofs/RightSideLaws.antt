@@ -1,5 +1,5 @@
 -- The right sides, entry by entry: what one entry leaves, and what the entries so far come to.
-use Rattle.std.proofs.Common.{◌≡◌, ℕ, ◌+◌, ◌≤◌, ◌<◌, Bool, true, false, true≢false, List, Ok, Err, length, get_or, set}
+use Rattle.std.proofs.Common.{◌≡◌, ℕ, ◌+◌, ◌≤◌, ◌<◌, Bool, true, false, true≢false, List, Ok, Err, length, get_or}
 use Rattle.std.proofs.Common.{refl, sym, ap, ◌∙◌, subst, length-set}
 use borrow.Author.Tests.{eqb-false}
 use Rattle.semantics.specs.Program.{Program, expr_count}
@@ -9,20 +9,22 @@ use Rattle.player.specs.declared.claims.Slots.{Slots}
 use Rattle.player.specs.declared.claims.Claims.{Claims as CodeClaims}
 use Rattle.player.specs.declared.memo.Memo.{Memo}
 use Rattle.player.specs.declared.work.Work.{Work}
+use Rattle.player.specs.declared.stores.Stores.{Stores}
 use Rattle.player.specs.declared.scratch.Scratch.{Scratch}
 use Rattle.player.specs.Memo.{Worked, value_of}
 use Rattle.player.specs.Claims.{Claim, UpTo, Aged}
 use Rattle.player.specs.Channels.{marks_of, PairedEntry}
-use Rattle.player.specs.Stores.{Storing, StoresAt, WorkedMore, RightSides, SidesTo}
+use Rattle.player.specs.Stores.{Storing, StoresAt, WorkedMore, RightSides, SidesTo, with_store}
 use Rattle.player.proofs.RankLaws.{claim_old}
 use Rattle.player.proofs.StoreLaws.{target_fits, source_inside}
 use Rattle.player.proofs.CycleLaws.{entry_at}
 use Rattle.player.proofs.SideLaws.{with_writers}
 use Rattle.player.proofs.SideLaws.{sides_none, sides_room, sides_skip, sides_worked, not_apart, all_apart, all-listed}
 
--- The first k entries are done, and have n stores.
-pub record RightSidesTo (P : Program) (entries : List ℕ) (before scratch : Scratch) (n k : ℕ) : Type 0 where
-  pub sides : SidesTo P entries before.work.memo.variables scratch.claims scratch.stores.list n k
+-- The first k entries are done, and their stores are listed.
+pub record RightSidesTo (P : Program) (entries : List ℕ) (before scratch : Scratch) (k : ℕ) : Type 0 where
+  pub sides :
+      SidesTo P entries before.work.memo.variables scratch.claims scratch.stores.list scratch.stores.count k
   pub more : WorkedMore P.exprs before.work scratch.work
   pub size : length scratch.stores.list ≡ 1024
   pub aged : Aged scratch.claims before.claims.stamp
@@ -30,7 +32,8 @@ pub record RightSidesTo (P : Program) (entries : List ℕ) (before scratch : Scr
 
 module _ {P : Program} {entries : List ℕ} {before : Scratch}
     (x : Storing P entries before.work.memo before.claims) where
-  pub right_none : length before.stores.list ≡ 1024 → RightSidesTo P entries before before 0 0
+  pub right_none : length before.stores.list ≡ 1024
+      → RightSidesTo P entries before (record before { stores = record before.stores { count = 0 } }) 0
   right_none size = record {
     sides = sides_none x.cycle before.work.memo.variables x.paired x.unclaimed;
     more = record { known = x.known; same = record { variables = refl; present = refl }; kept = refl };
@@ -39,12 +42,13 @@ module _ {P : Program} {entries : List ℕ} {before : Scratch}
     stamp = refl;
   }
 
-  module _ {scratch : Scratch} {n k : ℕ} (h : RightSidesTo P entries before scratch n k) where
+  module _ {scratch : Scratch} {k : ℕ} (h : RightSidesTo P entries before scratch k) where
     abbrev variables : List ℕ
     variables = before.work.memo.variables
 
-    pub right-all : length entries ≤ k → k ≤ length entries
-        → RightSides P entries before (Ok tt) (record scratch { stores = record { list = scratch.stores.list; count = n } })
+    -- whatever was listed in the cycle before
+    pub right-all : {listed : Stores} → length entries ≤ k → k ≤ length entries
+        → RightSides P entries (record before { stores = listed }) (Ok tt) scratch
     right-all l m =
         let apart = all_apart x.cycle variables h.sides l in
         record {
@@ -65,11 +69,11 @@ module _ {P : Program} {entries : List ℕ} {before : Scratch}
       abbrev pub right_entry : PairedEntry P scratch.claims entry
       right_entry = entry_at x.cycle h.sides.paired k l
 
-      pub right_room : n < 1024
+      pub right_room : scratch.stores.count < 1024
       right_room = sides_room x.cycle variables h.sides l
 
       -- an entry that stores nothing
-      pub right_skip : stores P (marks_of P entries) entry ≡ false → RightSidesTo P entries before scratch n (k + 1)
+      pub right_skip : stores P (marks_of P entries) entry ≡ false → RightSidesTo P entries before scratch (k + 1)
       right_skip s = record {
         sides = sides_skip x.cycle variables h.sides l s;
         more = h.more;
@@ -102,8 +106,9 @@ module _ {P : Program} {entries : List ℕ} {before : Scratch}
           }
 
           -- the variable was claimed already
-          pub right_refused : free ≡ false
-              → RightSides P entries before (Err StoresClash) (record scratch { claims = claimed })
+          pub right_refused : {listed : Stores} → free ≡ false
+              → RightSides P entries (record before { stores = listed }) (Err StoresClash)
+              (record scratch { claims = claimed })
           right_refused f =
               let clash = not_apart x.cycle variables h.sides l s (eqb-false _ 0 (sym c.was_free ∙ f)) in
               record {
@@ -119,11 +124,9 @@ module _ {P : Program} {entries : List ℕ} {before : Scratch}
               (record {
                 work = record scratch.work { memo = memo };
                 claims = claimed;
-                stores = record scratch.stores {
-                  list = set scratch.stores.list n (record { variable = record { 0 = v }; value = value });
-                };
+                stores = with_store scratch.stores (record { variable = record { 0 = v }; value = value });
               })
-              (n + 1) (k + 1)
+              (k + 1)
           right_more {value} {memo} f w = record {
             sides = sides_worked x.cycle variables h.sides l s
                 (subst (λ (b : Bool). Claim scratch.claims.writers writers scratch.claims.stamp v entry b) f c) value
@@ -137,7 +140,7 @@ module _ {P : Program} {entries : List ℕ} {before : Scratch}
               };
               kept = ap (λ (work : Work). record work { memo = memo }) h.more.kept;
             };
-            size = length-set scratch.stores.list n _ ∙ h.size;
+            size = length-set scratch.stores.list scratch.stores.count _ ∙ h.size;
             aged = claimed_aged;
             stamp = h.stamp;
           }

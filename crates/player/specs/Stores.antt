@@ -1,5 +1,5 @@
 -- The stores of a cycle in code: what is claimed and worked before any is made.
-use Rattle.std.specs.Prelude.{◌≡◌, true, ℕ, zero, suc, ◌≤◌, ◌<◌, length, get_or, set, take, drop, Result, ⊤}
+use Rattle.std.specs.Prelude.{◌≡◌, true, ℕ, zero, suc, ◌+◌, ◌≤◌, ◌<◌, length, get_or, set, take, drop, Result, ⊤}
 use mathlib.Core.List.{List, foldl}
 use Rattle.std.proofs.Math.Option.{some}
 use Rattle.semantics.specs.Program.{Program}
@@ -38,6 +38,10 @@ pub record Storing (P : Program) (entries : List ℕ) (memo : Memo) (claims : Co
 
 abbrev pub listed_store : List Store → ℕ → Store
 listed_store list n = get_or list n (record { variable = record { 0 = 0 }; value = 0 })
+
+-- The stores with one more after those that are listed.
+abbrev pub with_store : Stores → Store → Stores
+with_store stores store = record { list = set stores.list stores.count store; count = stores.count + 1 }
 
 -- The variable of store n, and the value that stands beside it.
 abbrev pub variable_at : List Store → ℕ → ℕ

@@ -21,7 +21,8 @@ struct Store {
     value: u16,
 }
 
-// The stores of a cycle, at most one for each entry. An array with a count, for the player has no heap.
+// The stores of a cycle, at most one for each entry: the first of the list, as many as the count. An array with a count, since
+// the player has no heap.
 #[derive(Drop)]
 pub struct Stores {
     list: [Store; NODES_MAX],
@@ -29,6 +30,8 @@ pub struct Stores {
 }
 
 impl Stores {
+    ghost use Rattle.player.specs.Stores.{with_store};
+
     pub fn new() -> Stores
         ensures { result.count ≡ 0 }
     {
@@ -40,11 +43,27 @@ impl Stores {
             count: 0,
         }
     }
+
+    // No store is listed any more.
+    fn clear(&mut self)
+        ensures { self.new ≡ record self.old { count = 0 } }
+    {
+        self.count = 0;
+    }
+
+    // A store after those that are listed.
+    fn push(&mut self, store: Store)
+        requires { self.old.count < 1024 }
+        ensures { self.new ≡ with_store self.old store }
+    {
+        self.list[self.count] = store;
+        self.count += 1;
+    }
 }
 
 // The variable that node i, a marked one, stores to, and the expression whose value it stores, where it stores: an ASG
 // has both; an IN for which an OUT is marked has the variable, and the OUT the expression.
-// x has the entries of the cycle, which are not handed over: the claims tell all that is asked.
+// The clause is for any entries x.entries of the cycle; they are not handed over, since the claims tell all that is asked.
 fn target_and_source(program: &Accepted, claims: &Claims, i: u16) -> Option<(VarId, u16)>
     requires { PairedEntry (accepted_in program.now) claims.now i }
     ensures { (x : PairedEntry (accepted_in program.now) claims.now i)
@@ -74,7 +93,7 @@ pub fn work_right_sides(
     requires { Storing (accepted_in program.now) entries.now scratch.old.work.memo scratch.old.claims }
     ensures { RightSides (accepted_in program.now) entries.now scratch.old result scratch.new }
 {
-    let mut count = 0;
+    scratch.stores.clear();
     for &i in entries {
         if let Some((variable, source)) = target_and_source(program, &scratch.claims, i) {
             let claims = &mut scratch.claims;
@@ -82,11 +101,9 @@ pub fn work_right_sides(
                 return Err(Refusal::Stores);
             }
             let value = expressions::right_side(program, &mut scratch.work.memo, source);
-            scratch.stores.list[count] = Store { variable, value };
-            count += 1;
+            scratch.stores.push(Store { variable, value });
         }
     }
-    scratch.stores.count = count;
     Ok(())
 }
 

@@ -1,12 +1,12 @@
 -- `work_right_sides` has the first entries done.
-use Rattle.std.proofs.Common.{arith, rules}
+use Rattle.std.proofs.Common.{rules}
 use Rattle.player.proofs.RightSideLaws.{right_none, right-all, right_entry, right_room, right_skip}
 use Rattle.player.proofs.RightSideLaws.{right_target, right_refused, right_expression, right_more}
 use Rattle.player.proofs.stores.work_right_sides.Goals as goal
 use Rattle.player.proofs.stores.work_right_sides.Goals.{in-Some+else-not-claim, in_default}
 
 pub loop-i-init : goal.loop-i-init
-loop-i-init c = right_none c.requires (search rules)
+loop-i-init c = rw c.clear.ensures (right_none c.requires (search rules))
 
 pub target_and_source-requires : goal.target_and_source-requires
 target_and_source-requires c = right_entry c.requires c.loop-i.invariant c.loop-i-test.true
@@ -34,12 +34,8 @@ right_side-value-requires c =
       known = c.loop-i.invariant.more.known;
     }
 
-pub bounds-scratch-count : goal.bounds-scratch-count
-bounds-scratch-count c = right_room c.requires c.loop-i.invariant c.loop-i-test.true
-
-pub overflow_add-count : goal.overflow_add-count
-overflow_add-count c =
-    let room = right_room c.requires c.loop-i.invariant c.loop-i-test.true in omega arith
+pub push-requires : goal.push-requires
+push-requires c = right_room c.requires c.loop-i.invariant c.loop-i-test.true
 
 -- ---- all entries
 
@@ -49,11 +45,11 @@ loop-i-preserved c =
     let more = c.loop-i-test.true in
     let entry = right_entry c.requires l.invariant more in
     elim c.match-target_and_source.branch [
-      | in-Some+else-not-claim w ↦ rw (w.scratch-is, w.count-is) (
+      | in-Some+else-not-claim w ↦ rw (w.scratch-is, w.push.ensures) (
           let stored = w.in-Some.ensures in
           right_more c.requires l.invariant more (stored entry) w.claim.ensures w.if-not-claim.false
           w.right_side-value.ensures)
-      | in_default w ↦ rw (w.scratch-is, w.count-is) (
+      | in_default w ↦ rw w.scratch-is (
           let alone = w.in_default.ensures in right_skip c.requires l.invariant more (alone entry))
     ]
 

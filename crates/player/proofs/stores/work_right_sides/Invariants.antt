@@ -5,4 +5,4 @@ use Rattle.player.proofs.stores.work_right_sides.Given as goal
 
 abbrev pub invariant-loop-i : goal.invariant-loop-i
 invariant-loop-i l =
-    RightSidesTo (accepted_in l.program) l.entries l.initial.scratch l.scratch l.count l.i-index
+    RightSidesTo (accepted_in l.program) l.entries l.initial.scratch l.scratch l.i-index
