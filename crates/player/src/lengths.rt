@@ -18,12 +18,8 @@ pub fn ask_lengths(
         (lengths_ok (accepted_in program.now) (state_of values.now marks.now counts.now)) Refusal.Lengths }
 {
     let nodes = program.lists.node_count();
-    if (values.len() == program.lists.vars as usize)
+    let fit = (values.len() == program.lists.vars as usize)
         & (marks.len() == nodes)
-        & (counts.len() == nodes)
-    {
-        Ok(())
-    } else {
-        Err(Refusal::Lengths)
-    }
+        & (counts.len() == nodes);
+    fit.then_some(()).ok_or(Refusal::Lengths)
 }
