@@ -1,4 +1,5 @@
-// The calls of the player with their answers in one word, as C gets them; the crate player_c exports them.
+// The calls of the player with their answers in one word, as C gets them; the crate player_c exports them. Each makes a
+// `Program` of the five parts that C hands over: a function for it would be handed the same five, and say no more.
 ghost use Rattle.std.specs.Prelude.{◌≡◌};
 ghost use Rattle.program.specs.Answer.{program_of, CheckAnswer};
 ghost use Rattle.program.specs.Word.{number_in, item_in};

@@ -1,4 +1,6 @@
-// Entering a node. `Walking` is said of a program, two lent lists and a `Work`, of which none has the others: so no field says it.
+// Entering a node. `Walking` is said of a program, two lent lists and a `Work`, of which none has the others: so no field
+// says it. The lists stay parameters beside `work`: of a struct that holds a `&mut` each function would have to say that it
+// is still the same list.
 ghost use Rattle.std.specs.Prelude.{◌≡◌, ◌<◌};
 ghost use Rattle.semantics.specs.Program.{node_count, kind_at, a_at};
 ghost use Rattle.semantics.specs.Program.Kind.{SEQ, PAR};
@@ -54,8 +56,9 @@ fn chosen(program: &Accepted, memo: &mut Memo, i: u16) -> Option<u16>
     None
 }
 
-// Enter node i. What an IF, a WHL or a SEQ at its last child goes on with is entered in the next turn of the loop;
-// `looping` says whether a WHL was passed on the way.
+// Enter node i. What an IF, a WHL or a SEQ at its last child goes on with is entered in the next turn of the loop, and not by a
+// call, so that calls nest only at children of PARs and at those of SEQs that are not the last. `looping` says whether a WHL was
+// passed on the way.
 #[tactic(auto, using(crate::proofs::EnterLaws::one_node), unfolding(crate::specs::Walks::passed))]
 #[cycle(enter_but_last_enter_child_enter_each_enter_node)]
 pub fn enter_node(
@@ -122,7 +125,8 @@ pub fn enter_child(
     enter_node(program, work, marks, counts, i)
 }
 
-// Enter the children of SEQ h in turn until one stays, but for the last. The last, if none stays.
+// Enter the children of SEQ h in turn until one stays, but for the last. The last, if none stays. By `successors` the loop would
+// have a closure and the law of its chain, where the step is one line, and would have to keep the last child back.
 #[tactic(auto, using(crate::proofs::EnterLaws::but_last))]
 #[cycle(enter_but_last_enter_child_enter_each_enter_node)]
 fn enter_but_last(
@@ -151,7 +155,8 @@ fn enter_but_last(
     Some(child)
 }
 
-// Enter every child of PAR h, first child first. Each that finishes lowers the count; the PAR is finished at 0.
+// Enter every child of PAR h, first child first. Each that finishes lowers the count; the PAR is finished at 0. By
+// `successors` the loop would have a closure and the law of its chain, where the step is one line.
 #[tactic(auto, using(crate::proofs::EnterLaws::each))]
 #[cycle(enter_but_last_enter_child_enter_each_enter_node)]
 fn enter_each(

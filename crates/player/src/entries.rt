@@ -19,8 +19,10 @@ pub fn cross(marks: &mut [u8], i: u16)
     marks[i as usize] = 0;
 }
 
-// Crosses entries out up to the first that has no mark, or none any more. Gives the number of entries before it. It goes on where
-// `pair_entries` stopped; one function for both would ask at each entry whether a channel is to be claimed.
+// Crosses entries out up to the first that has no mark, or none any more. Gives the number of entries before it, `entries.len()`
+// where all are crossed out: no Result, for its caller goes on with the number in both cases. It goes on where `pair_entries`
+// stopped. One function for both would be told by a closure what else is asked of an entry, and its contract would have to say
+// of any closure what the closure of `pair_entries` did to the claims: no plainer.
 #[tactic(auto, using(crate::proofs::EntryLaws::crossing_out))]
 pub fn cross_out(marks: &mut [u8], entries: &[u16]) -> usize
     ensures value { result ≡ crossable marks.old entries.now }

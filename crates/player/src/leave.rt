@@ -1,5 +1,6 @@
 // Leaving a node, a climb: each turn leaves one node. `Climbing` is said of a program and a `Work`, `Walking` of the lent lists
-// besides: none has the others, so that no field says it.
+// besides: none has the others, so that no field says it. The lists stay parameters beside `work`: of a struct that holds a
+// `&mut` each function would have to say that it is still the same list.
 ghost use Rattle.std.specs.Prelude.{◌≡◌, ◌<◌, ℕ};
 ghost use Rattle.std.proofs.Math.Option.{some};
 ghost use Rattle.semantics.specs.Program.{node_count, kind_at};

@@ -1,4 +1,5 @@
-// Marks, and how many stand: `work` has their number. A mark is the byte 1, as C lends it.
+// Marks, and how many stand: `work` has their number. A mark is the byte 1, as C lends it:
+// an enum would not be the same list.
 ghost use Rattle.std.specs.Prelude.{◌≡◌, ◌≤◌, ◌<◌, length, set};
 ghost use Rattle.semantics.specs.State.{mark_count};
 ghost use Rattle.player.specs.Work.{Tallied};

@@ -21,7 +21,8 @@ pub fn fill_values(values: &[u16], work: &mut Work)
     work.memo.variables[..values.len()].copy_from_slice(values);
 }
 
-// The parents of the nodes, over zeros.
+// The parents of the nodes, over zeros. One function for this and `fill_masks` would be handed the list, its length and a closure
+// that reads an entry, which is all that the two loops say: no plainer.
 fn fill_parents(program: &Accepted, work: &mut Work)
     requires { work.old.parents ≡ replicate 1024 0 }
     ensures climbing { Climbing (accepted_in program.now).nodes work.new }

@@ -22,8 +22,8 @@ pub fn outcome(counts: &[u16], h: u16) -> Outcome
     }
 }
 
-// The number of children of node h. A child says where the next begins; an iterator of children would be a type with laws of its
-// own for this loop and one in enter.rt, since `enter_but_last` keeps the last child back.
+// The number of children of node h. By `successors` this loop would have a closure and the law of its chain, where the step is
+// the one line `child = node(child).end`.
 #[tactic(auto, using(crate::proofs::AcceptedNodeLaws::counting_children))]
 pub fn count_children(program: &Accepted, h: u16) -> u16
     requires { h < node_count (accepted_in program.now).nodes }

@@ -19,7 +19,9 @@ fn count_for(kind: Kind, live: u16) -> u16
     if kind == Kind::Par { live } else { 0 }
 }
 
-// The counts of all nodes, from the last to the first.
+// The counts of all nodes, from the last to the first. The loop has an index, for `live` is written at a parent too.
+// `control_formed` has such a table and loop; one function for both would hand three lists to a closure that writes or
+// asks: no plainer.
 fn recount(program: &Accepted, marks: &[u8], counts: &mut [u16])
     requires { ListsFit (accepted_in program.now) marks.now counts.old }
     ensures { (i : ℕ) → i < node_count (accepted_in program.now).nodes
@@ -31,7 +33,8 @@ fn recount(program: &Accepted, marks: &[u8], counts: &mut [u16])
         let i = at as u16;
         let own = live[at];
         counts[at] = count_for(records::kind(program, i), own);
-        well_formed::add_to_parent(program, i, (marks[at] == 1) | (0 < own), &mut live);
+        let holds = entries::is_marked(marks, i) | (0 < own);
+        well_formed::add_to_parent(program, i, holds, &mut live);
     }
 }
 

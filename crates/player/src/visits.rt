@@ -1,4 +1,5 @@
-// The walks of a cycle, entry after entry: a leaf that waits is marked again, and one that completes is left.
+// The walks of a cycle, entry after entry: a leaf that waits is marked again, and one that completes is left. The lent lists stay
+// parameters beside `work`: of a struct that holds a `&mut` each function would have to say that it is still the same list.
 ghost use mathlib.Core.List.{foldl};
 ghost use Rattle.program.specs.Accepted.{accepted_in};
 ghost use Rattle.player.specs.Work.{Climbing};
@@ -11,7 +12,8 @@ use crate::work::Work;
 use crate::{channels, leave, marks};
 use program::Accepted;
 
-// Entry i. x has the entries of the cycle, which are not handed over: the claims tell all that is asked.
+// Entry i. The entries of the cycle are not handed over, for the claims tell all that is asked of them: what it ensures
+// names them by an x, whose entries are those that the claims are made of.
 #[tactic(auto, unfolding(semantics::specs::Cycle::visit))]
 fn visit(
     program: &Accepted,

@@ -38,7 +38,9 @@ pub fn add_to_parent(program: &Accepted, i: u16, holds: bool, live: &mut [u16])
     }
 }
 
-// What question 6 asks of marks and counts, where they fit the program.
+// What question 6 asks of marks and counts, where they fit the program. The loop has an index, for `live` is written at a parent
+// too. `recount` has such a table and loop; one function for both would hand three lists to a closure that asks or writes: no
+// plainer.
 fn control_formed(program: &Accepted, marks: &[u8], counts: &[u16]) -> bool
     requires { ListsFit (accepted_in program.now) marks.now counts.now }
     ensures { result ≡ control_formed (accepted_in program.now).nodes marks.now counts.now }
@@ -57,16 +59,15 @@ fn control_formed(program: &Accepted, marks: &[u8], counts: &[u16]) -> bool
     true
 }
 
-// Question 6 of the values alone, which is all that begin asks.
+// Question 6 of the values alone, which is all that begin asks. One function for this and `ask_state` would be told whether there
+// are marks and counts to be asked for, and be no plainer.
 pub fn ask_values(program: &Accepted, values: &[u16]) -> Result<(), Refusal>
     requires { length values.now ≡ (accepted_in program.now).variables }
     ensures { result ≡ answer_to (values_in_range (accepted_in program.now).widths values.now) Refusal.State }
 {
-    if values_in_range(program, values) {
-        Ok(())
-    } else {
-        Err(Refusal::State)
-    }
+    values_in_range(program, values)
+        .then_some(())
+        .ok_or(Refusal::State)
 }
 
 // Question 6 of a state whose lists fit an accepted program.
@@ -81,9 +82,7 @@ pub fn ask_state(
     ensures { result ≡ answer_to
         (well_formed (accepted_in program.now) (state_of values.now marks.now counts.now)) Refusal.State }
 {
-    if values_in_range(program, values) && control_formed(program, marks, counts) {
-        Ok(())
-    } else {
-        Err(Refusal::State)
-    }
+    (values_in_range(program, values) && control_formed(program, marks, counts))
+        .then_some(())
+        .ok_or(Refusal::State)
 }

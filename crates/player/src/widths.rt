@@ -1,5 +1,4 @@
-// The widths of the variables: the mask of each, which has as many low bits as the variable, and the values' part of
-// question 6.
+// The widths of the variables: the greatest value of each, and the values' part of question 6.
 ghost use Rattle.std.specs.Prelude.{◌≡◌, ◌-◌, ◌^◌, ◌<◌, length};
 ghost use Rattle.semantics.specs.Widths.{width_at, values_in_range};
 ghost use Rattle.program.specs.Accepted.{accepted_in};

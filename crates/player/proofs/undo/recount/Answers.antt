@@ -14,4 +14,4 @@ add_to_parent-requires c =
 pub loop-at-preserved : goal.loop-at-preserved
 loop-at-preserved c =
     let so_far = rw (turn c.loop-at-test.true) at c.loop-at.invariant in
-    rw (c.add_to_parent.ensures, c.count_for.ensures, c.kind.ensures) (recount_step c.requires so_far)
+    rw (c.add_to_parent.ensures, c.is_marked.ensures, c.count_for.ensures, c.kind.ensures) (recount_step c.requires so_far)
