@@ -50,11 +50,7 @@ impl Slots {
         ensures { IsClaimant self.now stamp slot result }
     {
         let last = self.slots[slot as usize];
-        if last.stamp == stamp {
-            Some(last.node)
-        } else {
-            None
-        }
+        (last.stamp == stamp).then_some(last.node)
     }
 }
 

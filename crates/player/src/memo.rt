@@ -45,11 +45,7 @@ impl Memo {
         ensures { result ≡ worked_at self.now e }
     {
         let at = e as usize;
-        if self.moments[at] == self.present {
-            Some(self.formulas[at])
-        } else {
-            None
-        }
+        (self.moments[at] == self.present).then_some(self.formulas[at])
     }
 
     // Expression e has this value at the present moment.
