@@ -71,7 +71,8 @@ pub fn value(program: &Accepted, memo: &mut Memo, e: u16) -> u16
 }
 
 // The same, for right sides: here a step on plain operands is worth being made without a call, which in the walks, where
-// conditions are read, costs more than it gains.
+// conditions are read, costs more than it gains. One function for both took up to 17 % more instructions in a cycle with
+// such a step, and up to 9 % more without.
 pub fn right_side(program: &Accepted, memo: &mut Memo, e: u16) -> u16
     requires e_bound { e < expr_count (accepted_in program.now).exprs }
     requires known { Known (accepted_in program.now).exprs memo.old }
@@ -87,7 +88,8 @@ pub fn right_side(program: &Accepted, memo: &mut Memo, e: u16) -> u16
 }
 
 // The value of expression e, which has two operands. It is called from several places, so that the compiler keeps it one
-// function: made part of the walks, it would slow them down.
+// function: made part of the walks, it would slow them down. With `operand_value` in its place cycles took up to three fifths
+// more instructions.
 #[tactic(auto, using(crate::proofs::OperandLaws::exprs_fit))]
 fn compound(program: &Accepted, memo: &mut Memo, e: u16) -> u16
     requires e_bound { (e < expr_count (accepted_in program.now).exprs) × HasOperands (accepted_in program.now).exprs e }
@@ -103,7 +105,8 @@ fn compound(program: &Accepted, memo: &mut Memo, e: u16) -> u16
     }
 }
 
-// The value of expression e inside another, where so many more may be worked inside one another.
+// The value of expression e inside another, where so many more may be worked inside one another. With the looks that `compound`
+// makes, a step before what is noted, cycles took up to 15 % more instructions.
 #[cycle(operand_value_worked_value)]
 fn operand_value(program: &Accepted, memo: &mut Memo, nested: u16, e: u16) -> u16
     requires e_bound { e < expr_count (accepted_in program.now).exprs }
