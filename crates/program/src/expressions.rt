@@ -22,8 +22,8 @@ fn expr_ok(program: &Program, i: u16) -> bool
     }
 }
 
-// The first expression that has a fault. Questions 2, 3, 4 and 11 are asked alike and share `find`: one function for all would
-// take a test and a refusal as closures, and be no plainer.
+// Refuses the first expression that has a fault. Questions 2, 3, 4 and 11 are asked alike and share `find`. With one function
+// for the four each would still hand over its count, its test and its refusal: the call would be as long as this body.
 pub fn ask_exprs(program: &Program) -> Result<(), Refusal>
     requires { Sized (program_in program.now) }
     ensures { Asked (program_in program.now) 2

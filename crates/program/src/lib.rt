@@ -1,5 +1,7 @@
-// The program lists: what their words mean, which programs are accepted, and what the ops of their expressions give. Tests are
-// joined by `&`, which asks all of them: they are cheap, and none depends on another.
+// The program lists: what their words mean, which programs are accepted, and what the ops of their expressions give.
+// Tests are joined by `&`, which asks all of them: they are cheap, and none depends on another.
+// Numbers pass between u16 and usize by `as`, which the contracts prove to lose nothing: `try_from` would give an error that
+// never comes, and `usize::from` would be no plainer.
 #![tactic(auto)]
 
 mod accepted; // an accepted program

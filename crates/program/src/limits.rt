@@ -13,5 +13,5 @@ pub const WIDTH_MAX: u16 = 16;
 // A node and all above it.
 pub const DEPTH_MAX: u16 = 32;
 
-// The parent word of node 0.
+// The parent word of node 0. The lists come from C, and have this word where an Option would have None.
 pub const NO_PARENT: u16 = 65535;

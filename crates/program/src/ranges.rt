@@ -22,7 +22,7 @@ fn references_ok(program: &Program, i: u16) -> bool
     }
 }
 
-// The first node that names what the program does not have.
+// Refuses the first node that names what the program does not have; the form is that of `ask_exprs`.
 pub fn ask_ranges(program: &Program) -> Result<(), Refusal>
     requires { Sized (program_in program.now) }
     ensures { Asked (program_in program.now) 4

@@ -1,12 +1,13 @@
-// The records of the program lists, and the widths. A word past the end of a list reads as 0, so that no reader asks anything
-// of its caller.
+// The records of the program lists, and the widths. The lists are those of C: flat lists of words, in which an index names a
+// record. A word past the end of a list reads as 0, as the rules read it (`slice_index`), and no reader asks anything of its
+// caller.
 ghost use Rattle.std.specs.Prelude.{◌≡◌, ◌*◌, slice_index, nat_lt};
 ghost use Rattle.semantics.specs.Program.{p_at, q_at, parent_at, end_at, a_at, b_at, expr_count, node_count};
 ghost use Rattle.semantics.specs.Widths.{width_at};
 
 use super::{ChanId, Program, VarId};
 
-// The words of an expression.
+// The words of an expression, as C's lists have them. The op is a word, since question 2 asks whether it is that of an op.
 #[derive(Clone, Copy, Debug, PartialEq, Eq)]
 pub struct Expr {
     pub op: u16,
@@ -14,7 +15,7 @@ pub struct Expr {
     pub q: u16,
 }
 
-// The words of a node.
+// The words of a node, as C's lists have them. The kind is a word, since question 3 asks whether it is that of a kind.
 #[derive(Clone, Copy, Debug, PartialEq, Eq)]
 pub struct Node {
     pub kind: u16,

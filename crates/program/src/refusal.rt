@@ -25,7 +25,8 @@ pub enum Refusal {
     Stores,
     // 10: a loop that takes no time.
     Loop,
-    // 11: the width of a variable; variable 0 where there are not as many widths as variables.
+    // 11: the width of a variable; variable 0 where there are not as many widths as variables, since the rules give 0 as the
+    // item then. A number, as the other items are: a `VarId` would only be opened by `item`.
     Width(u16),
     // 12: the bytes of a file.
     File,
@@ -55,7 +56,7 @@ impl Refusal {
         }
     }
 
-    // The first fault, or 0 with a question that has none.
+    // The first fault, or 0 with a question that has none: the item of C's word, which the rules have as 0 there.
     pub fn item(self) -> u16
         ensures { result ≡ fault_in self }
     {

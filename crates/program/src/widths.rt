@@ -13,7 +13,8 @@ fn width_ok(width: u16) -> bool
     (1..=WIDTH_MAX).contains(&width)
 }
 
-// The first variable whose width is outside 1 to 16; 0 where there are not as many widths as variables.
+// Refuses the first variable whose width is outside 1 to 16, or variable 0 where there are not as many widths as variables; the
+// form is that of `ask_exprs`.
 pub fn ask_widths(program: &Program) -> Result<(), Refusal>
     ensures { Asked (program_in program.now) 11 (widths_ok (program_in program.now)) result }
 {
