@@ -126,8 +126,9 @@ pub fn enter_child(
     enter_node(program, work, marks, counts, i)
 }
 
-// Enter the children of SEQ h in turn until one stays, but for the last. The last, if none stays. By `successors` the loop would
-// have a closure and the law of its chain, where the step is one line, and would have to keep the last child back.
+// Enter the children of SEQ h in turn until one stays, but for the last. The last, if none stays. By `successors` the step would
+// be a closure that is asked for what follows `end` too, where there may be no node, and the last child would have to be kept
+// back besides: no plainer.
 #[tactic(auto, using(crate::proofs::EnterLaws::but_last))]
 #[cycle(enter_but_last_enter_child_enter_each_enter_node)]
 fn enter_but_last(
@@ -157,7 +158,7 @@ fn enter_but_last(
 }
 
 // Enter every child of PAR h, first child first. Each that finishes lowers the count; the PAR is finished at 0. By
-// `successors` the loop would have a closure and the law of its chain, where the step is one line.
+// `successors` the step would be a closure that is asked for what follows `end` too, where there may be no node: no plainer.
 #[tactic(auto, using(crate::proofs::EnterLaws::each))]
 #[cycle(enter_but_last_enter_child_enter_each_enter_node)]
 fn enter_each(

@@ -22,8 +22,8 @@ pub fn outcome(counts: &[u16], h: u16) -> Outcome
     }
 }
 
-// The number of children of node h. By `successors` this loop would have a closure and the law of its chain, where the step is
-// the one line `child = node(child).end`.
+// The number of children of node h. By `successors` the step `child = node(child).end` would be a closure that is asked for what
+// follows `end` too, where there may be no node: it would have a test of its own besides, and the law of its chain: no plainer.
 #[tactic(auto, using(crate::proofs::AcceptedNodeLaws::counting_children))]
 pub fn count_children(program: &Accepted, h: u16) -> u16
     requires { h < node_count (accepted_in program.now).nodes }
