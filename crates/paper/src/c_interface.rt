@@ -8,18 +8,17 @@ ghost use Rattle.paper.specs.Write.{WriteAnswer};
 
 use super::FileSizes;
 use program::Program;
-use program::word::word_of_answer;
+use program::word::{word_of, word_of_answer};
 
-// It packs other parts than `word_of`; made of it it would be no shorter.
+// Two words, one above the other: nodes and expressions, then variables and channels.
 fn word_of_sizes(sizes: FileSizes) -> u64
     ensures nodes { nodes_in result ≡ sizes.nodes }
     ensures exprs { exprs_in result ≡ sizes.exprs }
     ensures vars { vars_in result ≡ sizes.vars }
     ensures chans { chans_in result ≡ sizes.chans }
 {
-    let low = u64::from(sizes.nodes) + 65536 * u64::from(sizes.exprs);
-    let high = u64::from(sizes.vars) + 65536 * u64::from(sizes.chans);
-    low + 4294967296 * high
+    u64::from(word_of(sizes.nodes, sizes.exprs))
+        + 4294967296 * u64::from(word_of(sizes.vars, sizes.chans))
 }
 
 // 0 for each where the bytes are no file.
@@ -57,6 +56,7 @@ pub fn paper_write(
         (program_of exprs.now nodes.now widths.now vars chans)
         values.now file.old (number_in result) (item_in result) file.new }
 {
+    // The literal names its fields, where a `new` would take these five by their order.
     let program = Program {
         exprs,
         nodes,

@@ -15,7 +15,8 @@ pub struct FileSizes {
     pub chans: u16,
 }
 
-// How many words the lists of expressions and nodes take, and the values and the widths each.
+// How many words the lists of expressions and nodes take, and the values and the widths each. `FileSizes` has numbers of
+// records, and `Distances` words from a part to the trailer: in one struct for all a field would have three meanings.
 #[derive(Clone, Copy, Debug)]
 pub struct Lengths {
     pub exprs: usize,
@@ -38,6 +39,7 @@ impl From<&Accepted<'_>> for FileSizes {
 }
 
 impl FileSizes {
+    // A method and no `From`, since callers in other crates then need not name `Lengths`.
     pub fn lengths(self) -> Lengths
         ensures exprs { result.exprs ≡ 3 * self.exprs }
         ensures nodes { result.nodes ≡ 5 * self.nodes }

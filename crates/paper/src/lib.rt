@@ -1,4 +1,5 @@
-// Papers as files: the calls sizes, read and write. Tests are joined by `&` and `|`, as in program.
+// Papers as files: the calls sizes, read and write. Tests are joined by `&` and `|`, and numbers cast by `as`, as
+// in program.
 #![tactic(auto)]
 
 pub mod c_interface; // the calls for C

@@ -13,7 +13,7 @@ use program::limits::{EXPRS_MAX, NODES_MAX, VARS_MAX};
 use program::{Program, Refusal, check};
 
 // What check asks of the program in a file. Parts that are longer than those of any accepted program break question 1,
-// so that the lists here are long enough for the others.
+// so that the lists here are long enough for the others. They are arrays, since the calls have no heap.
 pub fn check_in(file: &[u8], sizes: FileSizes) -> Result<(), Refusal>
     requires { AreSizes file.now sizes }
     ensures { CheckAnswer (program_in file.now) (number_of result) (item_of result) }
@@ -62,7 +62,8 @@ pub fn ask_room(
     if fit { Ok(()) } else { Err(Refusal::Room) }
 }
 
-// Fills four lists with the parts of a file.
+// Fills four lists with the parts of a file, which begin where `check_in` takes them. One function for both would also ask for
+// a list for the values, which `check_in` has not.
 pub fn fill_all(
     file: &[u8],
     sizes: FileSizes,

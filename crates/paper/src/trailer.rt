@@ -15,25 +15,29 @@ pub struct Distances {
     pub widths: usize,
 }
 
-pub fn distances_of(sizes: FileSizes) -> Distances
-    ensures exprs { result.exprs ≡ exprs_back (sizes_in_code sizes) }
-    ensures nodes { result.nodes ≡ nodes_back (sizes_in_code sizes) }
-    ensures values { result.values ≡ values_back (sizes_in_code sizes) }
-    ensures widths { result.widths ≡ widths_back (sizes_in_code sizes) }
-{
-    let Lengths { exprs, nodes, vars } = sizes.lengths();
-    let widths = vars;
-    let values = vars + widths;
-    let nodes = nodes + values;
-    Distances {
-        exprs: exprs + nodes,
-        nodes,
-        values,
-        widths,
+impl From<FileSizes> for Distances {
+    ghost from_gives = { λ sizes back. back ≡ record {
+      exprs = exprs_back (sizes_in_code sizes);
+      nodes = nodes_back (sizes_in_code sizes);
+      values = values_back (sizes_in_code sizes);
+      widths = widths_back (sizes_in_code sizes);
+    } };
+
+    fn from(sizes: FileSizes) -> Distances {
+        let Lengths { exprs, nodes, vars } = sizes.lengths();
+        let widths = vars;
+        let values = vars + widths;
+        let nodes = nodes + values;
+        Distances {
+            exprs: exprs + nodes,
+            nodes,
+            values,
+            widths,
+        }
     }
 }
 
-// Word k of a trailer.
+// Word k of a trailer. The words are read by number, as the rules of the format do.
 fn trailer_word(file: &[u8], k: usize) -> u16
     requires { (16 ≤ length file.now) × (k < 8) }
     ensures { result ≡ get_or (trailer_in file.now) k 0 }
@@ -59,7 +63,7 @@ fn distances_ok(file: &[u8], sizes: FileSizes) -> bool
     requires { 16 ≤ length file.now }
     ensures { result ≡ distances_ok (sizes_in_code sizes) (trailer_in file.now) }
 {
-    let back = distances_of(sizes);
+    let back = Distances::from(sizes);
     (trailer_word(file, 4) as usize == back.exprs)
         & (trailer_word(file, 5) as usize == back.nodes)
         & (trailer_word(file, 6) as usize == back.values)
@@ -77,6 +81,6 @@ pub fn sizes_of_file(file: &[u8]) -> Option<FileSizes>
     let sizes = sizes_in(file);
     let ok = (file.len() % 2 == 0)
         & distances_ok(file, sizes)
-        & (file.len() == 2 * distances_of(sizes).exprs + 16);
+        & (file.len() == 2 * Distances::from(sizes).exprs + 16);
     if ok { Some(sizes) } else { None }
 }

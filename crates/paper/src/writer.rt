@@ -7,7 +7,7 @@ ghost use Rattle.program.specs.Answer.{program_in};
 ghost use Rattle.paper.specs.Sizes.{sizes_in_code};
 
 use super::lengths::FileSizes;
-use super::trailer::distances_of;
+use super::trailer::Distances;
 use super::words::put_words;
 use program::Program;
 
@@ -38,7 +38,7 @@ pub fn trailer_of(sizes: FileSizes) -> [u16; 8]
     requires { exprs_back (sizes_in_code sizes) < 65536 }
     ensures { result ≡ trailer (sizes_in_code sizes) }
 {
-    let back = distances_of(sizes);
+    let back = Distances::from(sizes);
     [
         sizes.nodes,
         sizes.exprs,

@@ -1,5 +1,6 @@
 // The calls on files for C, an export for each: a slice passes as a pointer and its length in elements.
 // crates/paper/src/c_interface.rt makes their answers.
+// They stand in a crate of their own, since a crate is either a library, as paper is for play, or a static library.
 #![tactic(auto)]
 
 ghost use Rattle.program.specs.Answer.{program_of};
