@@ -32,8 +32,8 @@ fn pair_one(program: &Accepted, i: u16, claims: &mut Claims) -> bool
     }
 }
 
-// Questions 7 and 8 in one pass: each entry is crossed out of the marks and claims its channel, up to the first that has no
-// mark any more or finds its channel claimed: then the number of entries before it.
+// Questions 7 and 8 in one pass: each entry is crossed out of the marks and claims its channel. The pass stops at the first entry
+// that has no mark any more, or whose channel is claimed already, and gives the number of entries before it.
 pub fn pair_entries(
     program: &Accepted,
     marks: &mut [u8],
@@ -57,7 +57,7 @@ pub fn pair_entries(
 }
 
 // Whether node i, a marked one, waits: an IN with no OUT marked on its channel, or an OUT with no IN.
-// x has the entries of the cycle, which are not handed over: the claims tell all that is asked.
+// The clause is for any entries x.entries of the cycle; they are not handed over, since the claims tell all that is asked.
 #[tactic(auto, using(crate::proofs::PairingLaws::never_waits))]
 pub fn waits(program: &Accepted, claims: &Claims, i: u16) -> bool
     requires { PairedEntry (accepted_in program.now) claims.now i }

@@ -8,13 +8,16 @@ use program::ChanId;
 // numbers would be made at each call, by a proof of the same: no plainer. So it is with expressions in memo.rt.
 const SLOTS: usize = 256;
 
+// The node that claimed last, and the stamp of its cycle. An Option of a node would have to be cleared in each slot before each
+// cycle.
 #[derive(Clone, Copy, Debug)]
 struct Slot {
     stamp: u16,
     node: u16,
 }
 
-// The slots of what is claimed alike, by the numbers of the channels or of the variables.
+// The slots of what is claimed alike, by the numbers of the channels or of the variables. The stamp is handed with each call:
+// `Claims` has one for all its slots, and one in each `Slots` would be set three times in each cycle.
 #[derive(Drop)]
 pub struct Slots {
     slots: [Slot; SLOTS],
@@ -31,7 +34,7 @@ impl Slots {
         }
     }
 
-    // Whether the slot was free; then node i claims it.
+    // Whether the slot was free; then node i claims it. A bool, for there is no more to tell of it.
     pub fn claim(&mut self, stamp: u16, slot: u16, i: u16) -> bool
         requires { slot < 256 }
         ensures { Claim self.old self.new stamp slot i result }
@@ -58,7 +61,8 @@ impl Slots {
 #[derive(Drop)]
 pub struct Claims {
     pub stamp: u16,
-    // The channels that an IN claimed, those that an OUT claimed, and the variables that a store claimed.
+    // The channels that an IN claimed, those that an OUT claimed, and the variables that a store claimed. With one list of pairs
+    // for the channels, `claim` and `claimant` would be told which of a pair is asked: no plainer.
     pub inputs: Slots,
     pub outputs: Slots,
     pub writers: Slots,

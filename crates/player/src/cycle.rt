@@ -15,9 +15,9 @@ use crate::scratch::Scratch;
 use crate::{channels, entries, stores, undo, visits};
 use program::{Accepted, Refusal};
 
-// Where the pass of questions 7 and 8 came to so many entries and no further: the question that refuses, and the marks as
-// they were. Question 7 comes first, so the other entries are crossed out too.
-fn refusal(marks: &mut [u8], entries: &[u16], passed: usize) -> Refusal
+// Which question refuses, where the pass of questions 7 and 8 stopped after `passed` entries. Question 7 comes first: so the
+// other entries are crossed out too, and 8 refuses only where they all can be. The marks are as they were again.
+fn refused_by(marks: &mut [u8], entries: &[u16], passed: usize) -> Refusal
     requires { CrossedOut entries.now (uncrossed entries.now passed marks.old) passed marks.old }
     ensures marks_after { marks.new ≡ uncrossed entries.now passed marks.old }
     ensures question { result
@@ -46,7 +46,7 @@ fn ask(
     ensures { AskAnswer (accepted_in program.now) marks.old entries.now scratch.old result marks.new scratch.new }
 {
     if let Err(passed) = channels::pair_entries(program, marks, entries, &mut scratch.claims) {
-        return Err(refusal(marks, entries, passed));
+        return Err(refused_by(marks, entries, passed));
     }
     if let Err(refusal) = stores::work_right_sides(program, scratch, entries) {
         entries::mark_again(marks, entries);

@@ -1,5 +1,6 @@
 // The values of the variables, and of the expressions that were worked. A moment lasts while no value changes, and what is
-// worked at it stands. That it is right (`Known`) is said of a program and a memo, and neither has the other: so no field says it.
+// worked at it stands. That it is right (`Known`) is a clause and no field: it speaks of the expressions of a program, and does
+// not hold between a store that changes a value and the next moment.
 ghost use Rattle.std.specs.Prelude.{◌≡◌, ℕ, ◌≤◌, ◌<◌, get_or};
 
 use program::VarId;
@@ -12,7 +13,8 @@ pub struct Memo {
     // instructions, for a pass writes many moments at once.
     pub formulas: [u16; EXPRS_MAX],
     pub moments: [u16; EXPRS_MAX],
-    // The present moment, from 1 on: moment 0 is for what was never worked.
+    // The present moment, from 1 on: moment 0 is for what was never worked. An Option for each moment would take two words in
+    // place of one, and a run would have twice as large a `moments` on its stack.
     pub present: u16,
 }
 

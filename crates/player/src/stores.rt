@@ -14,7 +14,8 @@ use crate::{expressions, records};
 use program::limits::NODES_MAX;
 use program::{Accepted, ChanId, Kind, Leaf, Node, Refusal, VarId};
 
-// A store: its variable and the value for it, and once the store is made, the value before.
+// A store: its variable, and of the new value and the old one that which the variable does not have now: the new one until the
+// store is made, and the old one from then on. The old one is not asked before, nor the new one after: so it is one field.
 #[derive(Clone, Copy, Debug)]
 struct Store {
     variable: VarId,

@@ -11,12 +11,14 @@ pub struct Work {
     pub memo: Memo,
     // How many marks stand.
     pub tally: u16,
-    // Whether a zero-time loop was met.
+    // Whether a zero-time loop was met. A flag, tested once after all walks: with a Result each walk would stop there, and the
+    // rules go on.
     pub looped: bool,
-    // The parents of the nodes, as their records have them. A climb waits for each: read from the records, nesting of depth
-    // 32 took 1.23 of the time, and most programs 1.01 to 1.03. Options would take more stack than a run may have.
+    // The parents of the nodes, as their records have them. A climb waits for memory at each: read from the records, nesting
+    // of depth 32 took 1.23 of the time, and most programs 1.01 to 1.03. Options would take more stack than a run may have.
     pub parents: [u16; NODES_MAX],
-    // The mask of each variable: as many low bits as the variable is wide.
+    // The mask of each variable: as many low bits as the variable is wide. No pairs with the values: these are copied whole from
+    // the lent list, which has no masks, and for pairs that would take a loop: no plainer.
     pub masks: [u16; VARS_MAX as usize],
 }
 

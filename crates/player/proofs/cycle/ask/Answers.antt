@@ -47,8 +47,8 @@ module _ {P : Program} {marks entries lent : List ℕ} {before claims : Claims} 
   marks_back =
       ap (λ (m : List ℕ). set_all 1 m entries) crossed ∙ all-marked_again marks entries active
 
-pub refusal-requires : goal.refusal-requires
-refusal-requires c =
+pub refused_by-requires : goal.refused_by-requires
+refused_by-requires c =
     let passed = c.in-Err.ensures in rw (crossed_undone passed.out) passed.out
 
 pub returns-in-Err : goal.returns-in-Err
@@ -58,8 +58,8 @@ returns-in-Err c =
     let marks = c.args.marks.now in
     let entries = c.args.entries.now in
     let undone = crossed_undone passed.out in
-    let back = c.refusal.ensures.marks_after ∙ undone in
-    let which = rw undone at c.refusal.ensures.question in
+    let back = c.refused_by.ensures.marks_after ∙ undone in
+    let which = rw undone at c.refused_by.ensures.question in
     elim (lt_or_le (crossable marks entries) (length entries)) [
       | inl l ↦
           rw (which ∙ ap (λ b. cond b Entries Channels) (lt-ltb (crossable marks entries) (length entries) l))

@@ -1,4 +1,4 @@
--- `refusal` crosses the other entries out as far as it can, and marks again all that are crossed out.
+-- `refused_by` crosses the other entries out as far as it can, and marks again all that are crossed out.
 use Rattle.std.proofs.Common.{◌≡◌, ℕ, ◌+◌, ◌≤◌, ◌<◌, cond, List, length, take, drop, sym, ap, ◌∙◌, arith}
 use Rattle.std.proofs.lemmas.List.{take_rest}
 use lib.Dec.{ltb}
@@ -6,7 +6,7 @@ use borrow.Author.Tests.{lt-ltb, le-ltb}
 use Rattle.program.specs.declared.refusal.Refusal.TheVariants.{Entries, Channels}
 use Rattle.player.specs.Entries.{crossable, set_all, CrossedOut}
 use Rattle.player.proofs.EntryLaws.{set_all-more, crossable_most, part_length, part_inside, crossed_back}
-use Rattle.player.proofs.cycle.refusal.Goals as goal
+use Rattle.player.proofs.cycle.refused_by.Goals as goal
 
 -- the entries before `passed` are crossed out of the marks that are lent, and `more` of the rest are crossed out now
 module _ {entries marks lent : List ℕ} {passed more : ℕ} (h : CrossedOut entries marks passed lent)
