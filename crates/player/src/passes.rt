@@ -34,8 +34,8 @@ fn first_unworked(memo: &Memo, e: u16) -> u16
 }
 
 // Works the expressions from one up to e, where all before it are worked. Moments are written afterwards, many words at
-// once. Before the first there is nothing: there the number 0 is handed, which no operand of the first asks for, and an Option
-// would be no plainer.
+// once. With nothing before the first, `prev` is 0, which no operand of the first asks for: an Option would be no plainer.
+// It is carried, since with `i.saturating_sub(1)` in each turn a chain took a tenth more instructions.
 #[tactic(auto, using(crate::proofs::OperandLaws::exprs_fit, crate::proofs::MemoLaws::worked_first))]
 fn work_from(program: &Accepted, memo: &mut Memo, from: u16, e: u16) -> u16
     requires e_bound { (e < expr_count (accepted_in program.now).exprs) × (from ≤ e) }
@@ -44,10 +44,12 @@ fn work_from(program: &Accepted, memo: &mut Memo, from: u16, e: u16) -> u16
     ensures worked { WorkedTo (accepted_in program.now).exprs memo.new (e + 1) result }
     ensures kept { memo.new ≡ record memo.old { formulas = memo.new.formulas } }
 {
-    let mut last = memo.formulas[from.saturating_sub(1) as usize];
+    let mut prev = from.saturating_sub(1);
+    let mut last = memo.formulas[prev as usize];
     for i in from..=e {
-        last = next_value(program, memo, i, i.saturating_sub(1), last);
+        last = next_value(program, memo, i, prev, last);
         memo.formulas[i as usize] = last;
+        prev = i;
     }
     last
 }
