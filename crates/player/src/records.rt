@@ -27,6 +27,7 @@ pub fn expr(program: &Accepted, e: u16) -> Expr
 
 // The op of expression e. An accepted program has no word that is no op, so that `Below` never stands for one. With
 // `unwrap`, which keeps a test for such a word, here and in `kind`, most cycles took a tenth to a fifth more instructions.
+#[tactic(auto, using(crate::proofs::AcceptedLaws::op_there))]
 pub fn op(program: &Accepted, e: u16) -> Op
     requires { e < expr_count (accepted_in program.now).exprs }
     ensures { rule_op result ≡ op_at (accepted_in program.now).exprs e }
@@ -56,6 +57,7 @@ pub fn node(program: &Accepted, i: u16) -> Node
 
 // The kind of node i. As in `op`, no other word stands for a delay. One function for both would ask for a trait whose laws
 // say which list a word is of, and what it is read as: no plainer.
+#[tactic(auto, using(crate::proofs::AcceptedLaws::kind_there))]
 pub fn kind(program: &Accepted, i: u16) -> Kind
     requires { i < node_count (accepted_in program.now).nodes }
     ensures { rule_kind result ≡ kind_at (accepted_in program.now).nodes i }
