@@ -11,6 +11,7 @@ use crate::{marks, records, widths};
 use program::{Accepted, VarId};
 
 // The values of the variables, at the first moment, at which nothing is worked.
+#[tactic(auto, using(crate::proofs::StartLaws::value_written))]
 pub fn fill_values(values: &[u16], work: &mut Work)
     requires values_len { length values.now ≤ 256 }
     requires new { work.old ≡ new_work }
@@ -23,6 +24,7 @@ pub fn fill_values(values: &[u16], work: &mut Work)
 
 // The parents of the nodes, over zeros. One function for this and `fill_masks` would be handed the list, its length and a closure
 // that reads an entry, which is all that the two loops say: no plainer.
+#[tactic(auto, using(crate::proofs::StartLaws::parents_filled))]
 fn fill_parents(program: &Accepted, work: &mut Work)
     requires { work.old.parents ≡ replicate 1024 0 }
     ensures climbing { Climbing (accepted_in program.now).nodes work.new }
@@ -35,6 +37,7 @@ fn fill_parents(program: &Accepted, work: &mut Work)
 }
 
 // The masks of the variables, over zeros.
+#[tactic(auto, using(crate::proofs::StartLaws::mask_filled))]
 fn fill_masks(program: &Accepted, work: &mut Work)
     requires { work.old.masks ≡ replicate 256 0 }
     ensures masks { Masks (accepted_in program.now).widths work.new }
@@ -46,6 +49,7 @@ fn fill_masks(program: &Accepted, work: &mut Work)
 }
 
 // All that a run hands to its first cycle.
+#[tactic(auto, using(crate::proofs::AcceptedNodeLaws::nodes_fit))]
 pub fn fill(program: &Accepted, values: &[u16], marks: &[u8], work: &mut Work)
     requires values_len { length values.now ≡ (accepted_in program.now).variables }
     requires marks_len { length marks.now ≡ node_count (accepted_in program.now).nodes }
