@@ -1,16 +1,27 @@
--- What an accepted program says of its nodes.
-use Rattle.std.proofs.Common.{◌≡◌, ℕ, suc, ◌<◌, ◌≤◌, ◌+◌, add-one, Bool, true, false, List, refl, sym, ap, subst, arith}
-use Rattle.semantics.specs.Program.{node_count, kind_at, end_at, parent_at, is_leaf}
-use Rattle.semantics.specs.Facts.{NodesOk}
+-- What an accepted program says of its nodes, and what entering and leaving them comes to.
+use Rattle.std.proofs.Common.{◌≡◌, ℕ, suc, ◌<◌, ◌≤◌, ◌+◌, ◌∙◌, Bool, true, false, List, refl, sym, ap, subst, arith}
+use Rattle.std.proofs.Common.{add-one, length-set, lt-ltb, le-ltb}
 use Rattle.std.proofs.Math.Option.{Option as Parent, none, some}
+use Rattle.semantics.specs.Program.{node_count, kind_at, end_at, parent_at, a_at, is_leaf}
+use Rattle.semantics.specs.Program.Kind.{SEQ, PAR, IF, WHL}
+use Rattle.semantics.specs.Facts.{NodesOk, statement_at}
 use Rattle.semantics.specs.Parents.{parent}
+use Rattle.semantics.specs.Tree.{Stmt, children_from, statements}
+use Rattle.semantics.specs.Walk.{Walk, mark, set_count, child_count, lower, finished_at_zero, loop_if_finished}
+use Rattle.semantics.specs.Walk.{lower_if_finished, then_enter, then_leave, enter, enter_in_turn, enter_each, leave}
+use Rattle.semantics.specs.Walk.Entered.{stays}
 use Rattle.semantics.proofs.Lists.ParentLaws.{is_parent}
-use Rattle.semantics.specs.Tree.{children_from, statements}
-use Rattle.semantics.specs.Walk.{child_count}
 use Rattle.semantics.proofs.Tree.NodeLaws.{Placement, facts, end_after, end_fits, end_within_lem}
-use Rattle.semantics.proofs.Tree.ChildLaws.{some_child}
+use Rattle.semantics.proofs.Tree.ChildLaws.{some_child, whl_only_child}
 use Rattle.semantics.proofs.Tree.StatementLaws.{child_count-none, child_count-more}
+use Rattle.semantics.proofs.Tree.StatementLaws.{enter_in_turn-more, enter_each-none, enter_each-more}
+use Rattle.semantics.proofs.Walks.EnterLaws.{enter_leaf, enter_in_turn-one, enter_seq, enter_par}
+use Rattle.semantics.proofs.Walks.LeaveLaws.{leave_none, leave_seq, leave_par, leave_if, leave_whl_true}
+use Rattle.semantics.proofs.Walks.LeaveLaws.{leave_whl_false}
+use Rattle.program.specs.Accepted.{accepted_in}
 use Rattle.program.specs.declared.accepted.Accepted.{Accepted as AcceptedCode}
+use Rattle.player.specs.declared.memo.Memo.{Memo}
+use Rattle.player.specs.Walks.{holds_in, holds_now}
 use Rattle.player.proofs.AcceptedLaws.{is_accepted}
 
 module _ (program : AcceptedCode) where
@@ -90,6 +101,94 @@ module _ (program : AcceptedCode) where
           let fit = nodes_fit in
           absurd (omega arith)
 
+  -- ---- walks, with conditions read in a memo
+
+  module _ (memo : Memo) where
+    abbrev holds : ℕ → Bool
+    holds = holds_now (accepted_in program) memo
+
+    -- conditions are as before where no value was written
+    pub entered_alike : (before : Memo) (s : Stmt) (w : Walk) → memo.variables ≡ before.variables
+        → enter holds s w ≡ enter (holds_now (accepted_in program) before) s w
+    entered_alike before s w same =
+        ap (λ (values : List ℕ). enter (holds_in (accepted_in program).exprs values) s w) same
+
+    -- entering node i, by its kind
+    module _ (i : ℕ) (w : Walk) (l : i < node_count nodes) where
+      pub leaf_entered : is_leaf (kind_at nodes i) ≡ true → enter holds (statement_at nodes i) w ≡ stays (mark i w)
+      leaf_entered k = enter_leaf nodes ok holds i w l k
+
+      pub seq_entered : kind_at nodes i ≡ SEQ
+          → enter holds (statement_at nodes i) w ≡ enter_in_turn holds (children_from nodes (i + 1) i) w
+      seq_entered k = rw add-one (enter_seq nodes ok holds i w l k)
+
+      pub par_entered : kind_at nodes i ≡ PAR
+          → enter holds (statement_at nodes i) w
+          ≡ finished_at_zero i (enter_each holds i (children_from nodes (i + 1) i)
+          (set_count i (child_count (children_from nodes (i + 1) i)) w))
+      par_entered k = rw add-one (enter_par nodes ok holds i w l k)
+
+    -- the children of node h from node j on
+    module _ (h j : ℕ) (w : Walk) where
+      pub in_turn_next : j < end_at nodes h → j < node_count nodes
+          → enter_in_turn holds (children_from nodes j h) w
+          ≡ then_enter (enter holds (statement_at nodes j) w)
+          (enter_in_turn holds (children_from nodes (end_at nodes j) h))
+      in_turn_next u l = enter_in_turn-more nodes ok holds j (end_at nodes h) w u l
+
+      pub in_turn_last : j < end_at nodes h → j < node_count nodes → end_at nodes h ≤ end_at nodes j
+          → enter_in_turn holds (children_from nodes j h) w ≡ enter holds (statement_at nodes j) w
+      in_turn_last u l n = enter_in_turn-one nodes ok holds j (end_at nodes h) w u l n
+
+      pub each_next : j < end_at nodes h → j < node_count nodes
+          → enter_each holds h (children_from nodes j h) w
+          ≡ enter_each holds h (children_from nodes (end_at nodes j) h)
+          (lower_if_finished h (enter holds (statement_at nodes j) w))
+      each_next u l = enter_each-more nodes ok holds j (end_at nodes h) w h u l
+
+      pub each_none : end_at nodes h ≤ j → enter_each holds h (children_from nodes j h) w ≡ w
+      each_none n = enter_each-none nodes ok holds j (end_at nodes h) w h n
+
+    -- leaving node i, by the kind of its parent: the next child is entered, or the parent ends with the child
+    module _ (i : ℕ) (w : Walk) (l : i < node_count nodes) where
+      pub root_ends : parent_at nodes i ≡ 65535 → leave holds nodes i w ≡ w
+      root_ends e = leave_none nodes holds i w (no_parent_read i l e).1
+
+      -- the parent by the node's record
+      abbrev h : ℕ
+      h = parent_at nodes i
+
+      module _ (p : parent nodes i ≡ some h) where
+        pub seq_goes_on : kind_at nodes h ≡ SEQ → end_at nodes i < end_at nodes h
+            → leave holds nodes i w
+            ≡ then_leave (enter holds (statement_at nodes (end_at nodes i)) w) (leave holds nodes (end_at nodes i))
+        seq_goes_on k n = leave_seq nodes ok holds i h w l p k ∙ rw (lt-ltb (end_at nodes i) (end_at nodes h) n)
+
+        pub seq_ends : kind_at nodes h ≡ SEQ → end_at nodes h ≤ end_at nodes i
+            → leave holds nodes i w ≡ leave holds nodes h w
+        seq_ends k n = leave_seq nodes ok holds i h w l p k ∙ rw (le-ltb (end_at nodes i) (end_at nodes h) n)
+
+        pub par_ends : kind_at nodes h ≡ PAR
+            → leave holds nodes i w ≡ then_leave (finished_at_zero h (lower h w)) (leave holds nodes h)
+        par_ends k = leave_par nodes ok holds i h w l p k
+
+        pub if_ends : kind_at nodes h ≡ IF → leave holds nodes i w ≡ leave holds nodes h w
+        if_ends k = leave_if nodes ok holds i h w l p k
+
+        pub whl_ends : kind_at nodes h ≡ WHL → holds (a_at nodes h) ≡ false
+            → leave holds nodes i w ≡ leave holds nodes h w
+        whl_ends k f = leave_whl_false nodes ok holds i h w l p k f
+
+        pub whl_goes_on : kind_at nodes h ≡ WHL → holds (a_at nodes h) ≡ true
+            → leave holds nodes i w
+            ≡ then_leave (loop_if_finished (enter holds (statement_at nodes (h + 1)) w)) (leave holds nodes h)
+        whl_goes_on k t =
+            let lower = (is_parent nodes i h p).lower in
+            let only = whl_only_child nodes ok i h (omega arith) k p in
+            leave_whl_true nodes ok holds i h w l p k t
+            ∙ ap (λ (j : ℕ). then_leave (loop_if_finished (enter holds (statement_at nodes j) w)) (leave holds nodes h))
+            (only ∙ sym (add-one h))
+
 pub ruleset node_ends = (nodes_fit, end_later, end_inside)
 
 pub ruleset family = (node_ends, parent_before, parent_around)
@@ -97,3 +196,17 @@ pub ruleset family = (node_ends, parent_before, parent_around)
 pub ruleset parents = (family, parent_no_leaf, parent_read)
 
 pub ruleset counting_children = (node_ends, next_child, no_child)
+
+-- ---- what each function of `enter` and `leave` goes by
+
+pub ruleset but_last = (node_ends, first_child, seq_entered, in_turn_next, in_turn_last, entered_alike)
+
+pub ruleset each = (length-set, node_ends, first_child, par_entered, each_next, each_none, entered_alike)
+
+pub ruleset one_node = (leaf_entered, entered_alike)
+
+pub ruleset seq_left = (family, seq_goes_on, seq_ends)
+
+pub ruleset body_left = (family, first_child, if_ends, whl_ends, whl_goes_on, entered_alike)
+
+pub ruleset child_left = (parents, par_ends, root_ends)

@@ -2,8 +2,6 @@ pub mod EntryLaws
 pub mod CycleLaws
 pub mod AcceptedLaws
 pub mod MemoLaws
-pub mod EnterLaws
-pub mod LeaveLaws
 pub mod WalkingLaws
 pub mod RunAnswerLaws
 pub mod FirstNoLaws
@@ -34,3 +32,4 @@ pub mod StoredLaws
 pub mod SideLaws
 pub mod RightSideLaws
 pub mod AcceptedNodeLaws
+pub mod RefusedLaws

@@ -1,7 +1,8 @@
 -- A loop that enters nodes, at one of its turns: what the rule comes to from there on, and what holds there.
-use Rattle.std.proofs.Common.{◌≡◌, ℕ, Bool, List, Some, ap, ◌∙◌, subst}
+use Rattle.std.proofs.Common.{◌≡◌, ℕ, ◌<◌, Bool, List, Some, ap, ◌∙◌, subst}
 use Rattle.semantics.specs.Program.{Program}
-use Rattle.semantics.specs.Walk.{Entered, enter}
+use Rattle.semantics.specs.Tree.{Stmts, children_from}
+use Rattle.semantics.specs.Walk.{Walk, Entered, enter}
 use Rattle.semantics.specs.Facts.{statement_at}
 use Rattle.player.specs.declared.work.Work.{Work}
 use Rattle.player.specs.Work.{KeptTables}
@@ -12,6 +13,14 @@ pub record Reached (P : Program) (before : Work) (rule rest : Entered) (marks co
   pub right : rule ≡ rest
   pub walking : Walking P marks counts work
   pub kept : KeptTables before work
+
+-- A loop over the children of node h, at one of its turns: entering h with the walk at entry comes to `rest` of the
+-- children from that of the turn on, with the walk of the turn.
+pub record AtChild (P : Program) (marks₀ counts₀ : List ℕ) (before : Work) (h child : ℕ)
+    (rest : (ℕ → Bool) → Stmts → Walk → Entered) (marks counts : List ℕ) (work : Work) : Type 0 where
+  pub later : h < child
+  pub here : Reached P before (entering P marks₀ counts₀ before h)
+      (rest (holds_now P before.memo) (children_from P.nodes child h) (walk_in marks counts work)) marks counts work
 
 -- what is left of a loop that has passed a WHL or not and is at a node
 abbrev pub rest_at : Program → Work → Bool → ℕ → List ℕ → List ℕ → Work → Entered

@@ -60,7 +60,7 @@ fn chosen(program: &Accepted, memo: &mut Memo, i: u16) -> Option<u16>
 // Enter node i. What an IF, a WHL or a SEQ at its last child goes on with is entered in the next turn of the loop, and not by a
 // call, so that calls nest only at children of PARs and at those of SEQs that are not the last. `looping` says whether a WHL was
 // passed on the way.
-#[tactic(auto, using(crate::proofs::EnterLaws::one_node), unfolding(crate::specs::Walks::passed))]
+#[tactic(auto, using(crate::proofs::AcceptedNodeLaws::one_node), unfolding(crate::specs::Walks::passed))]
 #[cycle(enter_but_last_enter_child_enter_each_enter_node)]
 pub fn enter_node(
     program: &Accepted,
@@ -104,7 +104,7 @@ pub fn enter_node(
 }
 
 // Enter node i; a leaf at once, without a call. With a call for a leaf too most cycles took 16 to 37 % more instructions.
-#[tactic(auto, using(crate::proofs::EnterLaws::leaf_entered))]
+#[tactic(auto, using(crate::proofs::AcceptedNodeLaws::leaf_entered))]
 #[cycle(enter_but_last_enter_child_enter_each_enter_node)]
 pub fn enter_child(
     program: &Accepted,
@@ -129,7 +129,7 @@ pub fn enter_child(
 // Enter the children of SEQ h in turn until one stays, but for the last. The last, if none stays. By `successors` the step would
 // be a closure that is asked for what follows `end` too, where there may be no node, and the last child would have to be kept
 // back besides: no plainer.
-#[tactic(auto, using(crate::proofs::EnterLaws::but_last))]
+#[tactic(auto, using(crate::proofs::AcceptedNodeLaws::but_last))]
 #[cycle(enter_but_last_enter_child_enter_each_enter_node)]
 fn enter_but_last(
     program: &Accepted,
@@ -159,7 +159,7 @@ fn enter_but_last(
 
 // Enter every child of PAR h, first child first. Each that finishes lowers the count; the PAR is finished at 0. By
 // `successors` the step would be a closure that is asked for what follows `end` too, where there may be no node: no plainer.
-#[tactic(auto, using(crate::proofs::EnterLaws::each))]
+#[tactic(auto, using(crate::proofs::AcceptedNodeLaws::each))]
 #[cycle(enter_but_last_enter_child_enter_each_enter_node)]
 fn enter_each(
     program: &Accepted,

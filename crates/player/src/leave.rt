@@ -18,7 +18,7 @@ use program::{Accepted, Kind};
 
 // Node i, a child of SEQ h, is left: the next child is entered alone; if it stays, the climb is over, and if it finishes,
 // the next turn leaves it. With no next child the next turn leaves the SEQ.
-#[tactic(auto, using(crate::proofs::LeaveLaws::seq_left))]
+#[tactic(auto, using(crate::proofs::AcceptedNodeLaws::seq_left))]
 fn after_child(
     program: &Accepted,
     work: &mut Work,
@@ -42,7 +42,7 @@ fn after_child(
 
 // A child of node h, an IF or a WHL, is left. An IF is left in the next turn, and so is a WHL that is false. A WHL that is
 // true enters its child again, which is a zero-time loop if the child finishes.
-#[tactic(auto, using(crate::proofs::LeaveLaws::body_left))]
+#[tactic(auto, using(crate::proofs::AcceptedNodeLaws::body_left))]
 fn after_body(
     program: &Accepted,
     work: &mut Work,
@@ -68,7 +68,7 @@ fn after_body(
 
 // One turn: node i is left. Gives the node that the next turn leaves, or none where the climb is over: leaving node 0, which
 // has no parent, does nothing. A PAR counts one thread fewer, and is left with the last. A leaf is no parent.
-#[tactic(auto, using(crate::proofs::LeaveLaws::child_left))]
+#[tactic(auto, using(crate::proofs::AcceptedNodeLaws::child_left))]
 fn turn(
     program: &Accepted,
     work: &mut Work,

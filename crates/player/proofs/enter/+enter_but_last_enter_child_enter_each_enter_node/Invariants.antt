@@ -2,11 +2,10 @@
 -- so what is left of the node list falls; at one node the child is entered as a node, and the node enters its children.
 use Rattle.std.proofs.Common.{◌≡◌, ◌-◌, ◌*◌, ◌≤◌, ◌<◌}
 use Rattle.semantics.specs.Program.{node_count, end_at}
-use Rattle.semantics.specs.Tree.{children_from}
 use Rattle.semantics.specs.Walk.{finished_at_zero, enter_in_turn, enter_each}
 use Rattle.program.specs.Accepted.{accepted_in}
-use Rattle.player.specs.Walks.{entering, holds_now, walk_in}
-use Rattle.player.proofs.ReachedLaws.{Reached, rest_at}
+use Rattle.player.specs.Walks.{entering}
+use Rattle.player.proofs.ReachedLaws.{Reached, AtChild, rest_at}
 use Rattle.player.proofs.enter.+enter_but_last_enter_child_enter_each_enter_node.Given as goal
 
 abbrev pub decreases-enter_but_last : goal.decreases-enter_but_last
@@ -21,37 +20,24 @@ decreases-enter_each l = 3073 - 3 * l.h
 abbrev pub decreases-enter_node : goal.decreases-enter_node
 decreases-enter_node l = 3074 - 3 * l.i
 
--- `enter_but_last` goes over the siblings: entering the SEQ with the walk at entry is entering its children from that of the
--- turn on, in turn, with the walk of the turn.
+-- `enter_but_last` goes over the siblings: what is left is to enter them in turn.
 abbrev pub invariant-enter_but_last-loop-next : goal.invariant-enter_but_last-loop-next
 invariant-enter_but_last-loop-next l =
     let P = accepted_in l.program in
     record {
-      later : l.h < l.child;
       below : l.child < end_at P.nodes l.h;
       ends : l.next ≡ end_at P.nodes l.child;
-      here : Reached P l.fn.work
-          (entering P l.fn.marks l.fn.counts l.fn.work l.h)
-          (enter_in_turn (holds_now P l.fn.work.memo) (children_from P.nodes l.child l.h) (walk_in l.marks l.counts l.work))
-          l.marks l.counts l.work;
+      here : AtChild P l.fn.marks l.fn.counts l.fn.work l.h l.child enter_in_turn l.marks l.counts l.work;
     }
 
 abbrev pub decreases-enter_but_last-loop-next : goal.decreases-enter_but_last-loop-next
 decreases-enter_but_last-loop-next l = l.end - l.child
 
--- `enter_each` goes over the siblings: entering the PAR with the walk at entry is entering its children from that of the turn
--- on with the walk of the turn, and then asking the count.
+-- `enter_each` goes over the siblings: what is left is to enter each, and then to ask the count.
 abbrev pub invariant-enter_each-loop-child : goal.invariant-enter_each-loop-child
 invariant-enter_each-loop-child l =
-    let P = accepted_in l.program in
-    record {
-      later : l.h < l.child;
-      here : Reached P l.fn.work
-          (entering P l.fn.marks l.fn.counts l.fn.work l.h)
-          (finished_at_zero l.h
-          (enter_each (holds_now P l.fn.work.memo) l.h (children_from P.nodes l.child l.h) (walk_in l.marks l.counts l.work)))
-          l.marks l.counts l.work;
-    }
+    AtChild (accepted_in l.program) l.fn.marks l.fn.counts l.fn.work l.h l.child
+    (λ holds children w. finished_at_zero l.h (enter_each holds l.h children w)) l.marks l.counts l.work
 
 abbrev pub decreases-enter_each-loop-child : goal.decreases-enter_each-loop-child
 decreases-enter_each-loop-child l = l.end - l.child

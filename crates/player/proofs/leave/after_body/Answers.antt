@@ -1,6 +1,6 @@
 -- `after_body` enters the child of a WHL again.
 use Rattle.std.proofs.Common.{arith}
-use Rattle.player.proofs.LeaveLaws.{body_left}
+use Rattle.player.proofs.AcceptedNodeLaws.{body_left}
 use Rattle.player.proofs.leave.after_body.Goals as goal
 
 pub returns : goal.returns
