@@ -3,6 +3,7 @@
 use mathlib.Core.List.{foldl}
 use Rattle.std.proofs.Common.{◌≡◌, ℕ, ◌<◌, Bool, true, false, cond, List, [], length, get_or, replicate, Ok, Err, refl, sym, ap, ◌∙◌, arith}
 use lib.ListN.{length-replicate}
+use Rattle.arrayvec.specs.ArrayVec.{ArrayVec}
 use Rattle.semantics.specs.Program.{Program, node_count}
 use Rattle.semantics.specs.State.{State, mark_count}
 use Rattle.semantics.specs.Completion.{store}
@@ -12,7 +13,7 @@ use Rattle.semantics.specs.Facts.{LengthsFit}
 use Rattle.semantics.proofs.Order.CycleOrder.{fits_lengths}
 use Rattle.program.specs.declared.refusal.Refusal.TheVariants.{Loop}
 use Rattle.player.specs.declared.work.Work.{Work}
-use Rattle.player.specs.declared.stores.Stores.{Stores}
+use Rattle.player.specs.declared.stores.Store.{Store}
 use Rattle.player.specs.declared.scratch.Scratch.{Scratch}
 use Rattle.player.specs.Begin.{state_of}
 use Rattle.player.specs.Work.{Climbing, Masks}
@@ -45,24 +46,22 @@ module _ {P : Program} {values counts entries : List ℕ} {before : Scratch}
 
   -- ---- the stores
 
-  pub held_fit : HeldFit values before.stores
+  pub held_fit : HeldFit values before.stores.items
   held_fit =
       let same = lengths.values in
       let few = x.cycle.accepted.sizes.variables_fit in
       record {
-        size = x.listed.size;
-        few = x.listed.few;
         values_fit = omega arith;
         targets = λ j l. let inside = x.listed.targets j l in omega arith;
       }
 
-  module _ {values' : List ℕ} (work : Work) {stores : Stores}
-      (d : Stored values before.work before.stores values' work stores) where
+  module _ {values' : List ℕ} (work : Work) {stores : ArrayVec Store}
+      (d : Stored values before.work before.stores.items values' work stores.items) where
     new : values' ≡ new_values P s entries
     unfolding new_values
     new =
         d.right
-        ∙ put_masked P.widths before.work before.stores.list before.stores.count values carried.masks (λ j l.
+        ∙ put_masked P.widths before.work before.stores.items values carried.masks (λ j l.
         let inside = x.listed.targets j l in let few = x.cycle.accepted.sizes.variables_fit in omega arith)
         ∙ x.listed.right values
         ∙ ap (λ (table : List ℕ). foldl (store P (marks_of P entries) table) values entries)
@@ -169,7 +168,7 @@ module _ {P : Program} {values counts entries : List ℕ} {before : Scratch}
               (λ i l. right i l ∙ ap (λ (ms : List ℕ). count_from P.nodes ms i) marks_back)
 
           pub taken_back_lem : work'.looped ≡ true → {values'' : List ℕ}
-              → values'' ≡ taken_back stores.list stores.count values' → {counts'' : List ℕ}
+              → values'' ≡ taken_back stores.items values' → {counts'' : List ℕ}
               → length counts'' ≡ length counts'
               → ((i : ℕ) → i < node_count P.nodes → get_or counts'' i 0 ≡ count_from P.nodes marks'' i)
               → AdvanceAnswer P s entries before (Err Loop) (state_of values'' marks'' counts'') scratch

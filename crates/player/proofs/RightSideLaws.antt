@@ -1,7 +1,8 @@
 -- The right sides, entry by entry: what one entry leaves, and what the entries so far come to.
 use Rattle.std.proofs.Common.{◌≡◌, ℕ, ◌+◌, ◌≤◌, ◌<◌, Bool, true, false, true≢false, List, Ok, Err, length, get_or}
-use Rattle.std.proofs.Common.{refl, sym, ap, ◌∙◌, subst, length-set}
+use Rattle.std.proofs.Common.{[], ◌∷◌, ◌++◌, refl, sym, ap, ◌∙◌, subst}
 use borrow.Author.Tests.{eqb-false}
+use Rattle.arrayvec.specs.ArrayVec.{ArrayVec}
 use Rattle.semantics.specs.Program.{Program, expr_count}
 use Rattle.semantics.specs.Completion.{stores}
 use Rattle.program.specs.declared.refusal.Refusal.TheVariants.{Stores as StoresClash}
@@ -9,12 +10,12 @@ use Rattle.player.specs.declared.claims.Slots.{Slots}
 use Rattle.player.specs.declared.claims.Claims.{Claims as CodeClaims}
 use Rattle.player.specs.declared.memo.Memo.{Memo}
 use Rattle.player.specs.declared.work.Work.{Work}
-use Rattle.player.specs.declared.stores.Stores.{Stores}
+use Rattle.player.specs.declared.stores.Store.{Store}
 use Rattle.player.specs.declared.scratch.Scratch.{Scratch}
 use Rattle.player.specs.Memo.{Worked, value_of}
 use Rattle.player.specs.Claims.{Claim, UpTo, Aged}
 use Rattle.player.specs.Channels.{marks_of, PairedEntry}
-use Rattle.player.specs.Stores.{Storing, StoresAt, WorkedMore, RightSides, SidesTo, with_store}
+use Rattle.player.specs.Stores.{Storing, StoresAt, WorkedMore, RightSides, SidesTo}
 use Rattle.player.proofs.RankLaws.{claim_old}
 use Rattle.player.proofs.StoreLaws.{target_fits, source_inside}
 use Rattle.player.proofs.CycleLaws.{entry_at}
@@ -23,21 +24,18 @@ use Rattle.player.proofs.SideLaws.{sides_none, sides_room, sides_skip, sides_wor
 
 -- The first k entries are done, and their stores are listed.
 pub record RightSidesTo (P : Program) (entries : List ℕ) (before scratch : Scratch) (k : ℕ) : Type 0 where
-  pub sides :
-      SidesTo P entries before.work.memo.variables scratch.claims scratch.stores.list scratch.stores.count k
+  pub sides : SidesTo P entries before.work.memo.variables scratch.claims scratch.stores.items k
   pub more : WorkedMore P.exprs before.work scratch.work
-  pub size : length scratch.stores.list ≡ 1024
   pub aged : Aged scratch.claims before.claims.stamp
   pub stamp : scratch.claims.stamp ≡ before.claims.stamp
 
 module _ {P : Program} {entries : List ℕ} {before : Scratch}
     (x : Storing P entries before.work.memo before.claims) where
-  pub right_none : length before.stores.list ≡ 1024
-      → RightSidesTo P entries before (record before { stores = record before.stores { count = 0 } }) 0
-  right_none size = record {
-    sides = sides_none x.cycle before.work.memo.variables x.paired x.unclaimed;
+  pub right_none : {stores : ArrayVec Store} → stores.items ≡ []
+      → RightSidesTo P entries before (record before { stores = stores }) 0
+  right_none none = record {
+    sides = rw none (sides_none x.cycle before.work.memo.variables x.paired x.unclaimed);
     more = record { known = x.known; same = record { variables = refl; present = refl }; kept = refl };
-    size = size;
     aged = x.aged;
     stamp = refl;
   }
@@ -47,16 +45,16 @@ module _ {P : Program} {entries : List ℕ} {before : Scratch}
     variables = before.work.memo.variables
 
     -- whatever was listed in the cycle before
-    pub right-all : {listed : Stores} → length entries ≤ k → k ≤ length entries
+    pub right-all : {listed : ArrayVec Store} → length entries ≤ k
         → RightSides P entries (record before { stores = listed }) (Ok tt) scratch
-    right-all l m =
+    right-all l =
         let apart = all_apart x.cycle variables h.sides l in
         record {
           answered = sym (rw apart);
           started = λ a. record {
             cycle = x.cycle;
             paired = h.sides.paired;
-            listed = rw h.more.same.variables (all-listed x.cycle variables h.sides l m h.size);
+            listed = rw h.more.same.variables (all-listed x.cycle variables h.sides l);
           };
           more = h.more;
           aged = h.aged;
@@ -69,7 +67,7 @@ module _ {P : Program} {entries : List ℕ} {before : Scratch}
       abbrev pub right_entry : PairedEntry P scratch.claims entry
       right_entry = entry_at x.cycle h.sides.paired k l
 
-      pub right_room : scratch.stores.count < 1024
+      pub right_room : length scratch.stores.items < 1024
       right_room = sides_room x.cycle variables h.sides l
 
       -- an entry that stores nothing
@@ -77,7 +75,6 @@ module _ {P : Program} {entries : List ℕ} {before : Scratch}
       right_skip s = record {
         sides = sides_skip x.cycle variables h.sides l s;
         more = h.more;
-        size = h.size;
         aged = h.aged;
         stamp = h.stamp;
       }
@@ -106,7 +103,7 @@ module _ {P : Program} {entries : List ℕ} {before : Scratch}
           }
 
           -- the variable was claimed already
-          pub right_refused : {listed : Stores} → free ≡ false
+          pub right_refused : {listed : ArrayVec Store} → free ≡ false
               → RightSides P entries (record before { stores = listed }) (Err StoresClash)
               (record scratch { claims = claimed })
           right_refused f =
@@ -119,19 +116,16 @@ module _ {P : Program} {entries : List ℕ} {before : Scratch}
               }
 
           -- its right side is worked and listed
-          pub right_more : {value : ℕ} {memo : Memo} → free ≡ true → Worked P.exprs scratch.work.memo memo e value
+          pub right_more : {value : ℕ} {memo : Memo} {stores : ArrayVec Store} → free ≡ true
+              → Worked P.exprs scratch.work.memo memo e value
+              → stores.items ≡ scratch.stores.items ++ record { variable = record { 0 = v }; value = value } ∷ []
               → RightSidesTo P entries before
-              (record {
-                work = record scratch.work { memo = memo };
-                claims = claimed;
-                stores = with_store scratch.stores (record { variable = record { 0 = v }; value = value });
-              })
-              (k + 1)
-          right_more {value} {memo} f w = record {
-            sides = sides_worked x.cycle variables h.sides l s
+              (record { work = record scratch.work { memo = memo }; claims = claimed; stores = stores }) (k + 1)
+          right_more {value} {memo} f w longer = record {
+            sides = rw longer (sides_worked x.cycle variables h.sides l s
                 (subst (λ (b : Bool). Claim scratch.claims.writers writers scratch.claims.stamp v entry b) f c) value
-                h.aged.writers.size h.size
-                (w.right ∙ ap (λ (vs : List ℕ). value_of P.exprs vs e) h.more.same.variables);
+                h.aged.writers.size
+                (w.right ∙ ap (λ (vs : List ℕ). value_of P.exprs vs e) h.more.same.variables));
             more = record {
               known = w.known;
               same = record {
@@ -140,7 +134,6 @@ module _ {P : Program} {entries : List ℕ} {before : Scratch}
               };
               kept = ap (λ (work : Work). record work { memo = memo }) h.more.kept;
             };
-            size = length-set scratch.stores.list scratch.stores.count _ ∙ h.size;
             aged = claimed_aged;
             stamp = h.stamp;
           }

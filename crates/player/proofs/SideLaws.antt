@@ -2,8 +2,10 @@
 -- entry to the next, and question 9.
 use mathlib.Core.List.{foldl}
 use Rattle.std.proofs.Common.{◌≡◌, ◌≢◌, ℕ, ◌+◌, ◌≤◌, ◌<◌, Bool, true, false, ◌&&◌, eqb, List, length, get_or, set}
-use Rattle.std.proofs.Common.{drop, refl, sym, ap, ◌∙◌, subst, inl, inr, arith, add-one}
+use Rattle.std.proofs.Common.{drop, [], ◌∷◌, ◌++◌, refl, sym, ap, ◌∙◌, subst, inl, inr, arith, length-append}
+use Rattle.std.proofs.lemmas.List.{get_or_append_left}
 use Rattle.std.proofs.Math.ListN.{drop_of_length-le}
+use Rattle.std.proofs.Math.Seq.{get_or-append_seam}
 use lib.Dec.{leb}
 use native.Mathlib.Nat.{le_refl}
 use borrow.Author.Tests.{le-leb, leb-true, eqb-true}
@@ -20,12 +22,12 @@ use Rattle.player.specs.declared.claims.Claims.{Claims as CodeClaims}
 use Rattle.player.specs.declared.stores.Store.{Store}
 use Rattle.player.specs.Claims.{Claim, Unclaimed, rank_in, is_free}
 use Rattle.player.specs.Channels.{marks_of, CycleOf, Paired, PairedEntry}
-use Rattle.player.specs.Stores.{StoresAt, Listed, SidesTo, put_first, store_from, variable_at}
+use Rattle.player.specs.Stores.{StoresAt, Listed, SidesTo, put_all, store_from, variable_at}
 use Rattle.player.proofs.RankLaws.{unclaimed_rank, claimed_key, claimed_nothing}
 use Rattle.player.proofs.ClaimLaws.{claims_none, claims_more, claims_refused, claims-all}
 use Rattle.player.proofs.CycleLaws.{entry_at, single_entries, entries_few, fold_next}
 use Rattle.player.proofs.StoreLaws.{target_inside, target_fits, stored, not_stored}
-use Rattle.player.proofs.HeldLaws.{put_written, written_before, written_here}
+use Rattle.player.proofs.HeldLaws.{no_store, put_last}
 
 -- ---- the entries of a cycle
 
@@ -67,8 +69,8 @@ module _ {P : Program} {entries : List ℕ} (x : CycleOf P entries) where
     abbrev step : List ℕ → ℕ → List ℕ
     step = store_from P entries variables
 
-    pub sides_none : {claims : CodeClaims} {list : List Store} → Paired P entries claims
-        → Unclaimed claims.writers claims.stamp → SidesTo P entries variables claims list 0 0
+    pub sides_none : {claims : CodeClaims} → Paired P entries claims → Unclaimed claims.writers claims.stamp
+        → SidesTo P entries variables claims [] 0
     sides_none {claims} p u = record {
       paired = p;
       claimed = claims_none storing place claims.stamp claims.writers (λ v l. unclaimed_rank v u l);
@@ -77,7 +79,7 @@ module _ {P : Program} {entries : List ℕ} (x : CycleOf P entries) where
       rest = λ values. refl;
     }
 
-    module _ {claims : CodeClaims} {list : List Store} {n k : ℕ} (h : SidesTo P entries variables claims list n k) where
+    module _ {claims : CodeClaims} {list : List Store} {k : ℕ} (h : SidesTo P entries variables claims list k) where
       -- all entries are done
       pub all_apart : length entries ≤ k → targets_apart P (marks_of P entries) ≡ true
       unfolding targets_apart
@@ -85,11 +87,8 @@ module _ {P : Program} {entries : List ℕ} (x : CycleOf P entries) where
           let all = claims-all storing place claims.stamp entries claims.writers k l h.claimed in
           all-below single P.variables (λ v i. single_storing v ∙ le-leb _ 1 (all v).single)
 
-      pub all-listed : length entries ≤ k → k ≤ length entries → length list ≡ 1024
-          → Listed P entries variables (record { list = list; count = n })
-      all-listed l m size = record {
-        size = size;
-        few = let few = h.few in let most = entries_few x in omega arith;
+      pub all-listed : length entries ≤ k → Listed P entries variables list
+      all-listed l = record {
         targets = h.targets;
         right = λ values. sym (h.rest values ∙ rw (drop_of_length-le entries {i = k} l));
       }
@@ -104,18 +103,18 @@ module _ {P : Program} {entries : List ℕ} (x : CycleOf P entries) where
         inside : storing entry ≡ true → place entry < 256
         inside s = target_fits side_entry s
 
-        pub sides_room : n < 1024
+        pub sides_room : length list < 1024
         sides_room = let few = h.few in let most = entries_few x in omega arith
 
         -- the entry's store in the rules
-        next : (values : List ℕ) {values' : List ℕ} → step (put_first keep list n values) entry ≡ values'
+        next : (values : List ℕ) {values' : List ℕ} → step (put_all keep list values) entry ≡ values'
             → foldl step values entries ≡ foldl step values' (drop (k + 1) entries)
         next values e =
-            h.rest values ∙ fold_next step (put_first keep list n values) entries k l
+            h.rest values ∙ fold_next step (put_all keep list values) entries k l
             ∙ ap (λ (v : List ℕ). foldl step v (drop (k + 1) entries)) e
 
         -- an entry that stores nothing
-        pub sides_skip : storing entry ≡ false → SidesTo P entries variables claims list n (k + 1)
+        pub sides_skip : storing entry ≡ false → SidesTo P entries variables claims list (k + 1)
         sides_skip s =
             let few = h.few in
             record {
@@ -125,7 +124,7 @@ module _ {P : Program} {entries : List ℕ} (x : CycleOf P entries) where
               few = omega arith;
               targets = h.targets;
               rest = λ values.
-                  next values (not_stored side_entry (expr_values P.exprs variables) (put_first keep list n values) s);
+                  next values (not_stored side_entry (expr_values P.exprs variables) (put_all keep list values) s);
             }
 
         -- an entry that stores to variable v the value of expression e
@@ -152,12 +151,12 @@ module _ {P : Program} {entries : List ℕ} (x : CycleOf P entries) where
             abbrev listed : Store
             listed = record { variable = record { 0 = v }; value = value }
 
-            pub sides_worked : length claims.writers.slots ≡ 256 → length list ≡ 1024
+            pub sides_worked : length claims.writers.slots ≡ 256
                 → value ≡ get_or (expr_values P.exprs variables) e 0
-                → SidesTo P entries variables (with_writers claims writers) (set list n listed) (n + 1) (k + 1)
-            sides_worked size full right =
+                → SidesTo P entries variables (with_writers claims writers) (list ++ listed ∷ []) (k + 1)
+            sides_worked size right =
                 let few = h.few in
-                let room : n < length list = omega (arith, sides_room) in
+                let one_more : length (list ++ listed ∷ []) ≡ length list + 1 = length-append list (listed ∷ []) in
                 record {
                   paired = still_paired writers h.paired;
                   claimed = claims_more storing place claims.stamp entries k l claims.writers writers h.claimed inside
@@ -166,20 +165,19 @@ module _ {P : Program} {entries : List ℕ} (x : CycleOf P entries) where
                       (subst (λ (t : ℕ). Claim claims.writers writers claims.stamp t entry true) s.place c) refl
                       (inside s.storing) s.storing);
                   few = omega arith;
-                  targets = λ j u. elim (lt_or_le j n) [
+                  targets = λ j u. elim (lt_or_le j (length list)) [
                     | inl m ↦
-                        subst (λ (a : Store). a.variable.0 < P.variables) (sym (written_before list n listed j m))
-                        (h.targets j m)
+                        subst (λ (a : Store). a.variable.0 < P.variables)
+                        (sym (get_or_append_left list (listed ∷ []) no_store j m)) (h.targets j m)
                     | inr m ↦
-                        let last : n ≡ j = omega arith in
-                        subst (λ (i : ℕ). variable_at (set list n listed) i < P.variables) last
-                        (subst (λ (a : Store). a.variable.0 < P.variables) (sym (written_here list n listed room))
-                        store_inside)
+                        let last : length list ≡ j = omega arith in
+                        subst (λ (i : ℕ). variable_at (list ++ listed ∷ []) i < P.variables) last
+                        (subst (λ (a : Store). a.variable.0 < P.variables)
+                        (sym (get_or-append_seam list listed [] no_store)) store_inside)
                   ];
                   rest = λ values.
                       next values
-                      (stored side_entry (expr_values P.exprs variables) (put_first keep list n values) s
-                      ∙ ap (λ (w : ℕ). set (put_first keep list n values) v (keep v w)) (sym right)
-                      ∙ sym (put_written list n listed keep values room)
-                      ∙ ap (λ (i : ℕ). put_first keep (set list n listed) i values) (sym (add-one n)));
+                      (stored side_entry (expr_values P.exprs variables) (put_all keep list values) s
+                      ∙ ap (λ (w : ℕ). set (put_all keep list values) v (keep v w)) (sym right)
+                      ∙ sym (put_last list listed values keep));
                 }

@@ -1,20 +1,21 @@
 -- The first n stores of a cycle are made, in the values and in what `work` has of them, and can be taken back.
-use Rattle.std.proofs.Common.{◌≡◌, ℕ, suc, ◌+◌, ◌≤◌, ◌<◌, Bool, false, not, ◌||◌, eqb, List, length, get_or, set}
-use Rattle.std.proofs.Common.{take, [], ◌∷◌, ◌++◌, ◌-◌, refl, sym, ap, ◌∙◌, inl, inr, arith, add-one, subst}
+use Rattle.std.proofs.Common.{◌≡◌, ℕ, ◌+◌, ◌≤◌, ◌<◌, Bool, false, not, ◌||◌, eqb, List, length, get_or, set}
+use Rattle.std.proofs.Common.{take, [], ◌∷◌, ◌++◌, refl, sym, ap, ◌∙◌, inl, inr, arith, subst}
 use Rattle.std.proofs.Common.{length-set, length-append, get_or-set_same, get_or-set_other}
-use Rattle.std.proofs.lemmas.List.{set-get_or, get_or-take, get_or_append_left, length-take}
-use Rattle.std.proofs.Math.Seq.{set-set, get_or-append_seam}
+use Rattle.std.specs.List.{refill}
+use Rattle.std.proofs.lemmas.List.{set-get_or, get_or_append_left, take_all, take_more_set}
+use Rattle.std.proofs.Math.Seq.{set-set}
 use borrow.Author.Tests.{eqb-true, eqb-false, not-false}
+use Rattle.arrayvec.proofs.ArrayVecLemmas.{items-with_items}
 use Rattle.semantics.proofs.Lists.Logic.{or_left, or_right, true_or_false}
 use Rattle.player.specs.declared.stores.Store.{Store}
-use Rattle.player.specs.declared.stores.Stores.{Stores}
 use Rattle.player.specs.declared.memo.Memo.{Memo}
 use Rattle.player.specs.declared.work.Work.{Work}
 use Rattle.player.specs.Memo.{Known, Unworked, Holds}
 use Rattle.player.specs.Work.{masked_by}
-use Rattle.player.specs.Stores.{put_first, listed_store, variable_at, comes_to, taken_back, HeldFit, Stored}
+use Rattle.player.specs.Stores.{put_all, listed_store, variable_at, comes_to, taken_back, HeldFit, Stored}
 use Rattle.player.proofs.MemoLaws.{known_unworked, known_rewritten}
-use Rattle.player.proofs.HeldLaws.{no_store, HoldSame, put_same, back_same, written_other, written_before, written_here}
+use Rattle.player.proofs.HeldLaws.{no_store, take_next, put_last, back_last}
 
 -- two lists that are read alike, of which one element is written
 alike-set : (v value : ℕ) (xs ys : List ℕ) → v < length xs → v < length ys
@@ -44,13 +45,13 @@ module _ (old : List ℕ) (before : Work) (listed : List Store) where
     pub values_size : length values ≡ length old
     pub size : length work.memo.variables ≡ 256
     pub as_many : length list ≡ length listed
-    pub right : values ≡ put_first (masked_by before) listed n old
+    pub right : values ≡ put_all (masked_by before) (take n listed) old
     pub variables : Holds values work.memo
     pub kept : work ≡ with_variables before work.memo.variables
     pub same : changed ≡ false → values ≡ old
     pub targets : (j : ℕ) → variable_at list j ≡ variable_at listed j
     pub ahead : (j : ℕ) → n ≤ j → listed_store list j ≡ listed_store listed j
-    pub back : taken_back list n values ≡ old
+    pub back : taken_back (take n list) values ≡ old
 
   pub stored_none : length before.memo.variables ≡ 256 → Holds old before.memo
       → StoredTo false old before listed 0
@@ -83,23 +84,26 @@ module _ (old : List ℕ) (before : Work) (listed : List Store) where
     abbrev held : Store
     held = record (listed_store list n) { value = was }
 
+    made : set values target value ≡ put_all (masked_by before) (take (n + 1) listed) old
+    made =
+        let first = h.right in
+        let here = h.ahead n (omega arith) in
+        let mask = ap (λ (w : Work). w.masks) h.kept in
+        (λ i. set (first i) (here i).variable.0 (comes_to (record work { masks = mask i }) (here i)))
+        ∙ sym (put_last (take n listed) (listed_store listed n) old (masked_by before))
+        ∙ ap (λ (list : List Store). put_all (masked_by before) list old) (sym (take_next listed n l))
+
     pub stored_more : target < length values → target < 256
         → StoredTo (not (eqb was value) || changed) (set values target value)
         (with_variables work (set work.memo.variables target value)) (set list n held) (n + 1)
     stored_more inside few =
-        let here : listed_store list n ≡ listed_store listed n = h.ahead n (omega arith) in
         let room : n < length list = omega (arith, h.as_many) in
-        let placed = written_here list n held room in
         record {
           within = omega arith;
           values_size = length-set values target value ∙ h.values_size;
           size = length-set work.memo.variables target value ∙ h.size;
           as_many = length-set list n held ∙ h.as_many;
-          right =
-              let first = h.right in
-              let mask = ap (λ (w : Work). w.masks) h.kept in
-              (λ i. set (first i) (here i).variable.0 (comes_to (record work { masks = mask i }) (here i)))
-              ∙ ap (λ (i : ℕ). put_first (masked_by before) listed i old) (sym (add-one n));
+          right = made;
           variables =
               alike-set target value work.memo.variables values (omega (arith, h.size)) inside h.variables;
           kept = ap (λ (w : Work). with_variables w (set work.memo.variables target value)) h.kept;
@@ -110,144 +114,105 @@ module _ (old : List ℕ) (before : Work) (listed : List Store) where
           targets = λ j. elim (true_or_false (eqb j n)) [
             | inl e ↦
                 let at : j ≡ n = eqb-true j n e in
-                rw at (ap (λ (s : Store). s.variable.0) placed ∙ h.targets n)
+                rw at (ap (λ (s : Store). s.variable.0) (get_or-set_same list n held no_store room) ∙ h.targets n)
             | inr e ↦
-                ap (λ (s : Store). s.variable.0) (written_other list n held j (eqb-false j n e)) ∙ h.targets j
+                ap (λ (s : Store). s.variable.0) (get_or-set_other list n j held no_store (eqb-false j n e))
+                ∙ h.targets j
           ];
-          ahead = λ j m. written_other list n held j (λ e. omega arith) ∙ h.ahead j (omega arith);
+          ahead = λ j m.
+              get_or-set_other list n j held no_store (λ (e : j ≡ n). omega arith) ∙ h.ahead j (omega arith);
           back =
-              ap (λ (i : ℕ). taken_back (set list n held) i (set values target value)) (add-one n)
-              ∙ (λ i. let s = placed i in taken_back (set list n held) n (set (set values target value) s.variable.0 s.value))
-              ∙ ap (taken_back (set list n held) n) (set_back values target value)
-              ∙ back_same list (set list n held) n values (written_before list n held) ∙ h.back;
+              ap (λ (list : List Store). taken_back list (set values target value)) (take_more_set list n held room)
+              ∙ back_last (take n list) held (set values target value)
+              ∙ ap (taken_back (take n list)) (set_back values target value) ∙ h.back;
         }
 
--- ---- the stores of a cycle: the first of a longer list
+-- ---- the stores of a cycle
 
-module _ {old : List ℕ} {stores : Stores} (fit : HeldFit old stores) where
-  abbrev pub listed_in : List Store
-  listed_in = take stores.count stores.list
+module _ {old : List ℕ} {listed : List Store} (fit : HeldFit old listed) {before : Work} {changed : Bool} {values : List ℕ}
+    {work : Work} {list : List Store} {n : ℕ} (h : StoredTo old before listed changed values work list n) where
+  target_inside : (j : ℕ) → j < length listed → variable_at list j < length values
+  target_inside j l =
+      let inside = fit.targets j l in
+      let same = h.targets j in
+      let sizes = h.values_size in
+      omega arith
 
-  listed-length : length listed_in ≡ stores.count
-  listed-length =
-      let few = fit.few in let size = fit.size in omega (arith, length-take stores.count stores.list)
+  pub stored_target : n < length listed → (variable_at list n < length values) × (variable_at list n < 256)
+  stored_target l =
+      let inside = target_inside n l in
+      let sizes = h.values_size in
+      let most = fit.values_fit in
+      (inside, omega arith)
 
-  listed_same : (j : ℕ) → j < stores.count → listed_store listed_in j ≡ listed_store stores.list j
-  listed_same j l = get_or-take stores.count stores.list j no_store l
+  -- the variables alone are written
+  memo_after : work.memo ≡ record before.memo { variables = work.memo.variables }
+  memo_after = ap (λ (w : Work). w.memo) h.kept
 
-  module _ {before : Work} {changed : Bool} {values : List ℕ} {work : Work} {list : List Store} {n : ℕ}
-      (h : StoredTo old before listed_in changed values work list n) where
-    -- the variable of a store
-    target_inside : (j : ℕ) → j < stores.count → variable_at list j < length values
-    target_inside j l =
-        let inside = fit.targets j l in
-        let same = h.targets j ∙ ap (λ (s : Store). s.variable.0) (listed_same j l) in
-        let sizes = h.values_size in
-        omega arith
+  pub stored_past : ((e : ℕ) → e < 1024 → get_or before.memo.moments e 0 ≤ before.memo.present)
+      → (e : ℕ) → e < 1024 → get_or work.memo.moments e 0 ≤ work.memo.present
+  stored_past past =
+      subst (λ (m : Memo). (e : ℕ) → e < 1024 → get_or m.moments e 0 ≤ m.present) (sym memo_after) past
 
-    pub stored_target : n < length listed_in
-        → (variable_at list n < length values) × (variable_at list n < 256)
-    stored_target l =
-        let inside = target_inside n (omega (arith, listed-length)) in
-        let sizes = h.values_size in
-        let most = fit.values_fit in
-        (inside, omega arith)
+  -- all are made; what a vector has after a loop over its elements as a slice are these elements
+  module _ (l : length listed ≤ n) where
+    abbrev left : List Store
+    left = refill (length listed) listed list
 
-    -- the variables alone are written
-    memo_after : work.memo ≡ record before.memo { variables = work.memo.variables }
-    memo_after = ap (λ (w : Work). w.memo) h.kept
+    stored-all : {memo : Memo} → Holds values memo → ((exprs : List ℕ) → Known exprs before.memo → Known exprs memo)
+        → Stored old before listed values (record work { memo = memo }) left
+    stored-all {memo} holds known = rw (items-with_items (record { items = listed }) list h.as_many) (record {
+      right = h.right ∙ ap (λ (list : List Store). put_all (masked_by before) list old) (take_all n listed l);
+      holds = holds;
+      known = known;
+      kept = ap (λ (w : Work). record w { memo = memo }) h.kept;
+      fit = record {
+        values_fit = let most = fit.values_fit in let sizes = h.values_size in omega arith;
+        targets = λ j m. target_inside j (omega (arith, h.as_many));
+      };
+      back = ap (λ (list : List Store). taken_back list values) (sym (take_all n list (omega (arith, h.as_many))))
+          ∙ h.back;
+    })
 
-    pub stored_past : ((e : ℕ) → e < 1024 → get_or before.memo.moments e 0 ≤ before.memo.present)
-        → (e : ℕ) → e < 1024 → get_or work.memo.moments e 0 ≤ work.memo.present
-    stored_past past =
-        subst (λ (m : Memo). (e : ℕ) → e < 1024 → get_or m.moments e 0 ≤ m.present) (sym memo_after) past
+    -- a new moment follows
+    pub stored_moment : {memo : Memo} → Unworked work.memo memo
+        → Stored old before listed values (record work { memo = memo }) left
+    stored_moment {memo} u =
+        stored-all (λ v. ap (λ (vs : List ℕ). get_or vs v 0) u.variables ∙ h.variables v)
+        (λ exprs k. known_unworked exprs work.memo memo u)
 
-    -- all are made, and the others of the longer list stay
-    module _ (rest : List Store) (more : length rest ≡ length stores.list - stores.count) (l : length listed_in ≤ n) where
-      abbrev made : Stores
-      made = record { list = list ++ rest; count = stores.count }
-
-      stored-all : {memo : Memo} → Holds values memo → ((exprs : List ℕ) → Known exprs before.memo → Known exprs memo)
-          → Stored old before stores values (record work { memo = memo }) made
-      stored-all {memo} holds known =
-          let within = h.within in
-          let all : n ≡ stores.count = omega (arith, listed-length) in
-          let front : length list ≡ stores.count = h.as_many ∙ listed-length in
-          let here : HoldSame list (list ++ rest) stores.count =
-          λ j m. get_or_append_left list rest no_store j (omega arith) in
-          record {
-            right = h.right
-                ∙ ap (λ (i : ℕ). put_first (masked_by before) listed_in i old) all
-                ∙ put_same stores.list listed_in (masked_by before) stores.count old listed_same;
-            holds = holds;
-            known = known;
-            kept = ap (λ (w : Work). record w { memo = memo }) h.kept;
-            fit = record {
-              size = let few = fit.few in let size = fit.size in omega (arith, length-append list rest);
-              few = fit.few;
-              values_fit = let most = fit.values_fit in let sizes = h.values_size in omega arith;
-              targets = λ j m.
-                  subst (λ (s : Store). s.variable.0 < length values) (sym (here j m)) (target_inside j m);
-            };
-            back = back_same list (list ++ rest) stores.count values here
-                ∙ ap (λ (i : ℕ). taken_back list i values) (sym all) ∙ h.back;
-          }
-
-      -- a new moment follows
-      pub stored_moment : {memo : Memo} → Unworked work.memo memo
-          → Stored old before stores values (record work { memo = memo }) made
-      stored_moment {memo} u =
-          stored-all (λ v. ap (λ (vs : List ℕ). get_or vs v 0) u.variables ∙ h.variables v)
-          (λ exprs k. known_unworked exprs work.memo memo u)
-
-      -- no value has changed
-      pub stored_same : Holds old before.memo → changed ≡ false → Stored old before stores values work made
-      stored_same holds no_change =
-          stored-all h.variables (λ exprs k.
-          subst (Known exprs) (sym memo_after)
-          (known_rewritten exprs before.memo work.memo.variables h.size
-          (λ v. h.variables v ∙ ap (λ (vs : List ℕ). get_or vs v 0) (h.same no_change) ∙ sym (holds v)) k))
+    -- no value has changed
+    pub stored_same : Holds old before.memo → changed ≡ false → Stored old before listed values work left
+    stored_same holds no_change =
+        stored-all h.variables (λ exprs k.
+        subst (Known exprs) (sym memo_after)
+        (known_rewritten exprs before.memo work.memo.variables h.size
+        (λ v. h.variables v ∙ ap (λ (vs : List ℕ). get_or vs v 0) (h.same no_change) ∙ sym (holds v)) k))
 
 -- ---- the stores are taken back, the last first
 
 -- What is left to take back leads from these values to those from before the stores.
-pub record LeftToRestore (start : List ℕ) (stores : Stores) (values : List ℕ) (rest : List Store) : Type 0 where
+pub record LeftToRestore (start : List ℕ) (listed : List Store) (values : List ℕ) (rest : List Store) : Type 0 where
   pub targets : (j : ℕ) → j < length rest → variable_at rest j < length values
-  pub back : taken_back rest (length rest) values ≡ taken_back stores.list stores.count start
+  pub back : taken_back rest values ≡ taken_back listed start
 
-pub restore_start : {values : List ℕ} {stores : Stores} (fit : HeldFit values stores)
-    → LeftToRestore values stores values (listed_in fit)
-restore_start {values} {stores} fit = record {
-  targets = λ j l.
-      let m : j < stores.count = omega (arith, listed-length fit) in
-      subst (λ (s : Store). s.variable.0 < length values) (sym (listed_same fit j m)) (fit.targets j m);
-  back = ap (λ (i : ℕ). taken_back (listed_in fit) i values) (listed-length fit)
-      ∙ back_same stores.list (listed_in fit) stores.count values (listed_same fit);
-}
+pub restore_start : {values : List ℕ} {listed : List Store} → HeldFit values listed
+    → LeftToRestore values listed values listed
+restore_start fit = record { targets = fit.targets; back = refl }
 
-module _ {start : List ℕ} {stores : Stores} {values : List ℕ} (rest : List Store) (store : Store) (more : List Store)
-    (h : LeftToRestore start stores values more) (split : more ≡ rest ++ store ∷ []) where
-  last-length : length more ≡ suc (length rest)
-  last-length = ap length split ∙ omega (arith, length-append rest (store ∷ []))
-
-  last_store : listed_store more (length rest) ≡ store
-  last_store =
-      ap (λ (xs : List Store). listed_store xs (length rest)) split ∙ get_or-append_seam rest store [] no_store
-
-  first_stores : HoldSame rest more (length rest)
+module _ {start values : List ℕ} {listed : List Store} (rest : List Store) (store : Store) (more : List Store)
+    (h : LeftToRestore start listed values more) (split : more ≡ rest ++ store ∷ []) where
+  first_stores : (j : ℕ) → j < length rest → listed_store more j ≡ listed_store rest j
   first_stores j l =
       ap (λ (xs : List Store). listed_store xs j) split ∙ get_or_append_left rest (store ∷ []) no_store j l
 
-  pub restore_more : LeftToRestore start stores (set values store.variable.0 store.value) rest
-  restore_more =
-      let values' = set values store.variable.0 store.value in
-      record {
-        targets = λ j l.
-            let inside =
-            subst (λ (s : Store). s.variable.0 < length values) (first_stores j l)
-            (h.targets j (omega (arith, last-length))) in
-            omega (arith, length-set values store.variable.0 store.value);
-        back = sym (back_same rest more (length rest) values' first_stores)
-            ∙ (λ i. taken_back more (length rest) (set values (sym last_store i).variable.0 (sym last_store i).value))
-            ∙ ap (λ (i : ℕ). taken_back more i values) (sym last-length) ∙ h.back;
-      }
+  pub restore_more : LeftToRestore start listed (set values store.variable.0 store.value) rest
+  restore_more = record {
+    targets = λ j l.
+        let all : length more ≡ length rest + 1 = ap length split ∙ length-append rest (store ∷ []) in
+        let inside =
+        subst (λ (s : Store). s.variable.0 < length values) (first_stores j l) (h.targets j (omega arith)) in
+        omega (arith, length-set values store.variable.0 store.value);
+    back = sym (back_last rest store values)
+        ∙ ap (λ (list : List Store). taken_back list values) (sym split) ∙ h.back;
+  }

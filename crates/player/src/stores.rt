@@ -11,56 +11,20 @@ use crate::claims::Claims;
 use crate::scratch::Scratch;
 use crate::work::Work;
 use crate::{expressions, records};
+use arrayvec::ArrayVec;
 use program::limits::NODES_MAX;
 use program::{Accepted, ChanId, Kind, Leaf, Node, Refusal, VarId};
 
 // A store: its variable, and of the new value and the old one that which the variable does not have now: the new one until the
 // store is made, and the old one from then on. The old one is not asked before, nor the new one after: so it is one field.
-#[derive(Clone, Copy, Debug)]
-struct Store {
+#[derive(Clone, Copy, Debug, Default)]
+pub struct Store {
     variable: VarId,
     value: u16,
 }
 
-// The stores of a cycle, at most one for each entry: the first of the list, as many as the count. An array with a count, since
-// the player has no heap.
-#[derive(Drop)]
-pub struct Stores {
-    list: [Store; NODES_MAX],
-    count: usize,
-}
-
-impl Stores {
-    ghost use Rattle.player.specs.Stores.{with_store};
-
-    pub fn new() -> Stores
-        ensures { result.count ≡ 0 }
-    {
-        Stores {
-            list: [Store {
-                variable: VarId(0),
-                value: 0,
-            }; NODES_MAX],
-            count: 0,
-        }
-    }
-
-    // No store is listed any more.
-    fn clear(&mut self)
-        ensures { self.new ≡ record self.old { count = 0 } }
-    {
-        self.count = 0;
-    }
-
-    // A store after those that are listed.
-    fn push(&mut self, store: Store)
-        requires { self.old.count < 1024 }
-        ensures { self.new ≡ with_store self.old store }
-    {
-        self.list[self.count] = store;
-        self.count += 1;
-    }
-}
+// The stores of a cycle, at most one for each entry, in the order of the entries.
+pub type Stores = ArrayVec<Store, NODES_MAX>;
 
 // The variable that node i, a marked one, stores to, and the expression whose value it stores, where it stores: an ASG
 // has both; an IN for which an OUT is marked has the variable, and the OUT the expression.
@@ -135,13 +99,13 @@ fn store_one(values: &mut [u16], work: &mut Work, store: &mut Store) -> bool
 
 // All stores of the cycle. A moment ends where a value changes.
 pub fn store_all(values: &mut [u16], work: &mut Work, stores: &mut Stores)
-    requires held_fit { HeldFit values.old stores.old }
+    requires held_fit { HeldFit values.old stores.old.items }
     requires holds { Holds values.old work.old.memo }
     requires past { (e : ℕ) → e < 1024 → get_or work.old.memo.moments e 0 ≤ work.old.memo.present }
-    ensures { Stored values.old work.old stores.old values.new work.new stores.new }
+    ensures { Stored values.old work.old stores.old.items values.new work.new stores.new.items }
 {
     let mut changed = false;
-    for store in &mut stores.list[..stores.count] {
+    for store in stores.as_mut_slice() {
         changed = store_one(values, work, store) | changed;
     }
     if changed {
@@ -151,10 +115,10 @@ pub fn store_all(values: &mut [u16], work: &mut Work, stores: &mut Stores)
 
 // Takes the stores back, the last first. What `work` has of the values stays as it is: no cycle follows.
 pub fn restore_all(values: &mut [u16], stores: &Stores)
-    requires { HeldFit values.old stores.now }
-    ensures { values.new ≡ taken_back stores.now.list stores.now.count values.old }
+    requires { HeldFit values.old stores.now.items }
+    ensures { values.new ≡ taken_back stores.now.items values.old }
 {
-    for store in stores.list[..stores.count].iter().rev() {
+    for store in stores.as_slice().iter().rev() {
         values[store.variable.0 as usize] = store.value;
     }
 }

@@ -46,7 +46,7 @@ pub struct Program<'a> {
 }
 
 // The number of a variable. It is a type of its own, as a channel's is, so that neither is taken for the other.
-#[derive(Clone, Copy, Debug, PartialEq, Eq)]
+#[derive(Clone, Copy, Debug, Default, PartialEq, Eq)]
 pub struct VarId(pub u16);
 
 // The number of a channel.

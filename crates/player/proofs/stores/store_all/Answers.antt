@@ -1,6 +1,5 @@
 -- `store_all` has the first stores made.
-use Rattle.std.proofs.Common.{◌≡◌, ◌||◌, Bool, length, drop, ap, arith, rules}
-use Rattle.std.proofs.lemmas.List.{length-drop}
+use Rattle.std.proofs.Common.{◌≡◌, ◌||◌, Bool, length, ap, rules}
 use Rattle.player.proofs.StoredLaws.{stored_none, stored_target, stored_more, stored_past, stored_moment, stored_same}
 use Rattle.player.proofs.stores.store_all.Goals as goal
 
@@ -8,15 +7,18 @@ pub loop-store-init : goal.loop-store-init
 loop-store-init c =
     let a = c.args in
     let size : length a.work.now.memo.variables ≡ 256 = search rules in
-    stored_none a.values.now a.work.now _ size c.requires.holds
+    rw c.as_mut_slice-store-items.ensures.value
+    (stored_none a.values.now a.work.now a.stores.now.items size c.requires.holds)
 
 pub store_one-changed-requires : goal.store_one-changed-requires
-store_one-changed-requires c = stored_target c.requires.held_fit c.loop-store.invariant c.loop-store-test.true
+store_one-changed-requires c =
+    stored_target c.requires.held_fit c.loop-store.invariant
+    (rw c.as_mut_slice-store-items.ensures.value at c.loop-store-test.true)
 
 pub loop-store-preserved : goal.loop-store-preserved
 loop-store-preserved c =
     let l = c.loop-store in
-    let more = c.loop-store-test.true in
+    let more = rw c.as_mut_slice-store-items.ensures.value at c.loop-store-test.true in
     let made = c.store_one-changed.ensures in
     let (inside, few) = stored_target c.requires.held_fit l.invariant more in
     rw (ap (λ (b : Bool). b || l.changed) made.changed, made.values_after, made.work_after, made.held)
@@ -27,15 +29,10 @@ next_moment-requires-clause-past c = stored_past c.requires.held_fit c.loop-stor
 
 pub returns-then-changed : goal.returns-then-changed
 returns-then-changed c =
-    let list = c.args.stores.now.list in
-    let count = c.args.stores.now.count in
-    stored_moment c.requires.held_fit c.loop-store.invariant _
-    (omega (arith, length-drop count (drop 0 list), length-drop 0 list)) c.loop-store-test.false c.next_moment.ensures
+    stored_moment c.requires.held_fit c.loop-store.invariant
+    (rw c.as_mut_slice-store-items.ensures.value at c.loop-store-test.false) c.next_moment.ensures
 
 pub returns-else-changed : goal.returns-else-changed
 returns-else-changed c =
-    let list = c.args.stores.now.list in
-    let count = c.args.stores.now.count in
-    stored_same c.requires.held_fit c.loop-store.invariant _
-    (omega (arith, length-drop count (drop 0 list), length-drop 0 list)) c.loop-store-test.false c.requires.holds
-    c.if-changed.false
+    stored_same c.requires.held_fit c.loop-store.invariant
+    (rw c.as_mut_slice-store-items.ensures.value at c.loop-store-test.false) c.requires.holds c.if-changed.false

@@ -1,12 +1,12 @@
 -- `work_right_sides` has the first entries done.
-use Rattle.std.proofs.Common.{rules}
+use Rattle.std.proofs.Common.{arith}
 use Rattle.player.proofs.RightSideLaws.{right_none, right-all, right_entry, right_room, right_skip}
 use Rattle.player.proofs.RightSideLaws.{right_target, right_refused, right_expression, right_more}
 use Rattle.player.proofs.stores.work_right_sides.Goals as goal
 use Rattle.player.proofs.stores.work_right_sides.Goals.{in-Some+else-not-claim, in_default}
 
 pub loop-i-init : goal.loop-i-init
-loop-i-init c = rw c.clear.ensures (right_none c.requires (search rules))
+loop-i-init c = right_none c.requires c.clear.ensures
 
 pub target_and_source-requires : goal.target_and_source-requires
 target_and_source-requires c = right_entry c.requires c.loop-i.invariant c.loop-i-test.true
@@ -35,7 +35,7 @@ right_side-value-requires c =
     }
 
 pub push-requires : goal.push-requires
-push-requires c = right_room c.requires c.loop-i.invariant c.loop-i-test.true
+push-requires c = (omega arith, right_room c.requires c.loop-i.invariant c.loop-i-test.true)
 
 -- ---- all entries
 
@@ -45,13 +45,13 @@ loop-i-preserved c =
     let more = c.loop-i-test.true in
     let entry = right_entry c.requires l.invariant more in
     elim c.match-target_and_source.branch [
-      | in-Some+else-not-claim w ↦ rw (w.scratch-is, w.push.ensures) (
+      | in-Some+else-not-claim w ↦ rw w.scratch-is (
           let stored = w.in-Some.ensures in
           right_more c.requires l.invariant more (stored entry) w.claim.ensures w.if-not-claim.false
-          w.right_side-value.ensures)
+          w.right_side-value.ensures w.push.ensures.items)
       | in_default w ↦ rw w.scratch-is (
           let alone = w.in_default.ensures in right_skip c.requires l.invariant more (alone entry))
     ]
 
 pub returns : goal.returns
-returns c = right-all c.requires c.loop-i.invariant c.loop-i-test.false c.loop-i.auto.i-index-end
+returns c = right-all c.requires c.loop-i.invariant c.loop-i-test.false
