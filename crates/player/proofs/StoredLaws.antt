@@ -41,6 +41,7 @@ with_variables work variables = record work { memo = record work.memo { variable
 module _ (old : List ℕ) (before : Work) (listed : List Store) where
   -- The first n of the listed stores are made, and their old values are held.
   pub record StoredTo (changed : Bool) (values : List ℕ) (work : Work) (list : List Store) (n : ℕ) : Type 0 where
+    pub fit : HeldFit old listed
     pub within : n ≤ length listed
     pub values_size : length values ≡ length old
     pub size : length work.memo.variables ≡ 256
@@ -53,9 +54,10 @@ module _ (old : List ℕ) (before : Work) (listed : List Store) where
     pub ahead : (j : ℕ) → n ≤ j → listed_store list j ≡ listed_store listed j
     pub back : taken_back (take n list) values ≡ old
 
-  pub stored_none : length before.memo.variables ≡ 256 → Holds old before.memo
+  pub stored_none : HeldFit old listed → length before.memo.variables ≡ 256 → Holds old before.memo
       → StoredTo false old before listed 0
-  stored_none size h = record {
+  stored_none fit size h = record {
+    fit = fit;
     within = omega arith;
     values_size = refl;
     size = size;
@@ -99,6 +101,7 @@ module _ (old : List ℕ) (before : Work) (listed : List Store) where
     stored_more inside few =
         let room : n < length list = omega (arith, h.as_many) in
         record {
+          fit = h.fit;
           within = omega arith;
           values_size = length-set values target value ∙ h.values_size;
           size = length-set work.memo.variables target value ∙ h.size;
@@ -129,11 +132,11 @@ module _ (old : List ℕ) (before : Work) (listed : List Store) where
 
 -- ---- the stores of a cycle
 
-module _ {old : List ℕ} {listed : List Store} (fit : HeldFit old listed) {before : Work} {changed : Bool} {values : List ℕ}
-    {work : Work} {list : List Store} {n : ℕ} (h : StoredTo old before listed changed values work list n) where
+module _ {old : List ℕ} {before : Work} {listed : List Store} {changed : Bool} {values : List ℕ} {work : Work}
+    {list : List Store} {n : ℕ} (h : StoredTo old before listed changed values work list n) where
   target_inside : (j : ℕ) → j < length listed → variable_at list j < length values
   target_inside j l =
-      let inside = fit.targets j l in
+      let inside = h.fit.targets j l in
       let same = h.targets j in
       let sizes = h.values_size in
       omega arith
@@ -142,7 +145,7 @@ module _ {old : List ℕ} {listed : List Store} (fit : HeldFit old listed) {befo
   stored_target l =
       let inside = target_inside n l in
       let sizes = h.values_size in
-      let most = fit.values_fit in
+      let most = h.fit.values_fit in
       (inside, omega arith)
 
   -- the variables alone are written
@@ -167,7 +170,7 @@ module _ {old : List ℕ} {listed : List Store} (fit : HeldFit old listed) {befo
       known = known;
       kept = ap (λ (w : Work). record w { memo = memo }) h.kept;
       fit = record {
-        values_fit = let most = fit.values_fit in let sizes = h.values_size in omega arith;
+        values_fit = let most = h.fit.values_fit in let sizes = h.values_size in omega arith;
         targets = λ j m. target_inside j (omega (arith, h.as_many));
       };
       back = ap (λ (list : List Store). taken_back list values) (sym (take_all n list (omega (arith, h.as_many))))

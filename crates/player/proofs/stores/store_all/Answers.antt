@@ -8,31 +8,31 @@ loop-store-init c =
     let a = c.args in
     let size : length a.work.now.memo.variables ≡ 256 = search rules in
     rw c.as_mut_slice-store-items.ensures.value
-    (stored_none a.values.now a.work.now a.stores.now.items size c.requires.holds)
+    (stored_none a.values.now a.work.now a.stores.now.items c.requires.held_fit size c.requires.holds)
 
 pub store_one-changed-requires : goal.store_one-changed-requires
-store_one-changed-requires c =
-    stored_target c.requires.held_fit c.loop-store.invariant
-    (rw c.as_mut_slice-store-items.ensures.value at c.loop-store-test.true)
+store_one-changed-requires c = stored_target c.loop-store.invariant c.loop-store-test.true
 
 pub loop-store-preserved : goal.loop-store-preserved
 loop-store-preserved c =
     let l = c.loop-store in
-    let more = rw c.as_mut_slice-store-items.ensures.value at c.loop-store-test.true in
+    let more = c.loop-store-test.true in
     let made = c.store_one-changed.ensures in
-    let (inside, few) = stored_target c.requires.held_fit l.invariant more in
+    let (inside, few) = stored_target l.invariant more in
     rw (ap (λ (b : Bool). b || l.changed) made.changed, made.values_after, made.work_after, made.held)
     (stored_more _ _ _ l.invariant more inside few)
 
 pub next_moment-requires-clause-past : goal.next_moment-requires-clause-past
-next_moment-requires-clause-past c = stored_past c.requires.held_fit c.loop-store.invariant c.requires.past
+next_moment-requires-clause-past c = stored_past c.loop-store.invariant c.requires.past
+
+-- ---- all stores are made
 
 pub returns-then-changed : goal.returns-then-changed
 returns-then-changed c =
-    stored_moment c.requires.held_fit c.loop-store.invariant
-    (rw c.as_mut_slice-store-items.ensures.value at c.loop-store-test.false) c.next_moment.ensures
+    rw (← c.as_mut_slice-store-items.ensures.value)
+    (stored_moment c.loop-store.invariant c.loop-store-test.false c.next_moment.ensures)
 
 pub returns-else-changed : goal.returns-else-changed
 returns-else-changed c =
-    stored_same c.requires.held_fit c.loop-store.invariant
-    (rw c.as_mut_slice-store-items.ensures.value at c.loop-store-test.false) c.requires.holds c.if-changed.false
+    rw (← c.as_mut_slice-store-items.ensures.value)
+    (stored_same c.loop-store.invariant c.loop-store-test.false c.requires.holds c.if-changed.false)
