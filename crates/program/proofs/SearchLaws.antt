@@ -1,6 +1,6 @@
 -- Laws of a search for a fault: `find`, over the indices below a count, finds the rules' lowest fault, or none where every
 -- index passes. So it answers the question that is asked of each index.
-use Rattle.std.proofs.Common.{◌≡◌, ℕ, ◌<◌, ◌≤◌, Bool, true, false, not, List, Option, None, Some, Ok, Err, sym, refl, ◌∙◌, subst, inl, inr, zero-le, true≢false}
+use Rattle.std.proofs.Common.{◌≡◌, ℕ, ◌<◌, ◌≤◌, Bool, true, false, not, List, Option, None, Some, Result, Ok, Err, sym, refl, ap, ◌∙◌, subst, inl, inr, zero-le, true≢false}
 use borrow.Author.Tests.{not-true, not-false}
 use denote.Ref.{Bor}
 use denote.Param.Members.{Mut}
@@ -46,28 +46,32 @@ module _ (ok : ℕ → Bool) (n : ℕ) where
   ]
 
   -- ---- a search up to `end` that calls a test of faults
-  module _ {F : Type 0} {g : Mut F (Bor ℕ × Unit {0}) Bool} {end : ℕ} (whole : end ≡ n) {f : F} (u : Range ℕ) (r : Option ℕ)
-      (ran : (xs : List ℕ) × (j : F) × YieldsThen nat_range_steps (record { start = 0; end = end }) xs r u
-      × FoldsTo (λ p x q. CalledAt g p x false q) f xs j × MatchOption r ⊤ (λ x. (h : F) × CalledAt g j x true h))
+  module _ {F : Type 0} {g : Mut F (Bor ℕ × Unit {0}) Bool} {end : ℕ} (whole : end ≡ n) {f : F} (u : Range ℕ)
       (tests : (x : ℕ) (b : Bool) (q : F) → CalledAt g f x b q → (q ≡ f) × (b ≡ not (ok x))) where
-    searched : Found r
-    searched =
+    abbrev Ran : Option ℕ → Type 0
+    Ran r =
+        (xs : List ℕ) × (j : F) × YieldsThen nat_range_steps (record { start = 0; end = end }) xs r u
+        × FoldsTo (λ p x q. CalledAt g p x false q) f xs j × MatchOption r ⊤ (λ x. (h : F) × CalledAt g j x true h)
+
+    searched : (r : Option ℕ) → Ran r → Found r
+    searched r ran =
         found r
         (subst (λ (x : ℕ). AllOrLowest x r) whole
         (first_from_Range _ u f r (λ i. ok i ≡ false) (λ i. ok i ≡ true) ran
         (λ x q k. not-true _ (sym (tests x true q k).1))
         (λ x q k. ((tests x false q k).0, not-false _ (sym (tests x false q k).1)))))
 
-    -- a question that is asked of each index is answered yes where every one passes
-    module _ {P : Program} {yes : Bool} (asks : yes ≡ every ok (below n)) where
-      pub none_faulty : {question : ℕ} → r ≡ None → Asked {A = Unit {0}} P question yes (Ok tt)
-      none_faulty e = record { right_number = rw (asks ∙ subst Found e searched); right_item = sym (no_item P 0 refl) }
-
-      pub one_faulty : {refusal : Refusal} → fault_item P (question_number refusal) ≡ lowest_fault ok n
-          → r ≡ Some (fault_in refusal) → Asked {A = Unit {0}} P (question_number refusal) yes (Err refusal)
-      one_faulty {refusal} item e =
-          let f : IsLowestFault ok n (fault_in refusal) = subst Found e searched in
-          record {
-            right_number = rw (asks ∙ one_fails (fault_in refusal) f);
-            right_item = sym (item ∙ lowest_found ok n (fault_in refusal) f);
-          }
+    -- a question that is asked of each index, where the lowest fault is refused, is answered right
+    pub answered : {P : Program} {passes : Bool} → passes ≡ every ok (below n) → {question : ℕ} (refusal : ℕ → Refusal)
+        → ((i : ℕ) → (question_number (refusal i) ≡ question) × (fault_in (refusal i) ≡ i))
+        → fault_item P question ≡ lowest_fault ok n → (r : Option ℕ) → Ran r
+        → {answer : Result ⊤ Refusal} {Refuses : ℕ → Type 0} → MatchOption r (answer ≡ Ok tt) Refuses
+        → ((i : ℕ) → Refuses i → answer ≡ Err (refusal i)) → Asked P question passes answer
+    answered {P} asks refusal says item None ran ends refuses =
+        rw ends (record { right_number = rw (asks ∙ searched None ran); right_item = sym (no_item P 0 refl) })
+    answered {P} asks refusal says item (Some i) ran ends refuses =
+        let f = searched (Some i) ran in
+        rw (refuses i ends) (record {
+          right_number = rw (asks ∙ one_fails i f, (says i).0);
+          right_item = (says i).1 ∙ sym (lowest_found ok n i f) ∙ sym item ∙ ap (fault_item P) (sym (says i).0);
+        })

@@ -30,8 +30,7 @@ pub fn ask_exprs(program: &Program) -> Result<(), Refusal>
         (every (expr_ok (program_in program.now)) (below (expr_count program.now.exprs.now))) result }
 {
     let count = program.expr_count() as u16;
-    match (0..count).find(|&i| !expr_ok(program, i)) {
-        Some(i) => Err(Refusal::Expr(i)),
-        None => Ok(()),
-    }
+    (0..count)
+        .find(|&i| !expr_ok(program, i))
+        .map_or(Ok(()), |i| Err(Refusal::Expr(i)))
 }

@@ -29,8 +29,7 @@ pub fn ask_ranges(program: &Program) -> Result<(), Refusal>
         (every (references_ok (program_in program.now)) (below (node_count program.now.nodes.now))) result }
 {
     let count = program.node_count() as u16;
-    match (0..count).find(|&i| !references_ok(program, i)) {
-        Some(i) => Err(Refusal::Reference(i)),
-        None => Ok(()),
-    }
+    (0..count)
+        .find(|&i| !references_ok(program, i))
+        .map_or(Ok(()), |i| Err(Refusal::Reference(i)))
 }

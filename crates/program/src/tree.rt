@@ -66,8 +66,7 @@ pub fn ask_nodes(program: &Program) -> Result<(), Refusal>
     let count = program.node_count() as u16;
     let mut places = [Place::default(); NODES_MAX];
     place_nodes(program, &mut places, count);
-    match (0..count).find(|&i| !node_ok(program, i, places[i as usize])) {
-        Some(i) => Err(Refusal::Node(i)),
-        None => Ok(()),
-    }
+    (0..count)
+        .find(|&i| !node_ok(program, i, places[i as usize]))
+        .map_or(Ok(()), |i| Err(Refusal::Node(i)))
 }

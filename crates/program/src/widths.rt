@@ -21,8 +21,7 @@ pub fn ask_widths(program: &Program) -> Result<(), Refusal>
     if program.widths.len() != program.vars as usize {
         return Err(Refusal::Width(0));
     }
-    match (0..program.vars).find(|&v| !width_ok(program.width(VarId(v)))) {
-        Some(v) => Err(Refusal::Width(v)),
-        None => Ok(()),
-    }
+    (0..program.vars)
+        .find(|&v| !width_ok(program.width(VarId(v))))
+        .map_or(Ok(()), |v| Err(Refusal::Width(v)))
 }

@@ -3,15 +3,12 @@ use Rattle.std.proofs.Common.{refl, rules, tests}
 use Rattle.semantics.specs.Check.{expr_ok}
 use Rattle.semantics.proofs.Lists.FaultLaws.{item_2}
 use Rattle.program.specs.Answer.{program_in}
-use Rattle.program.proofs.SearchLaws.{none_faulty, one_faulty}
+use Rattle.program.specs.declared.refusal.Refusal.TheVariants.{Expr}
+use Rattle.program.proofs.SearchLaws.{answered}
 use Rattle.program.proofs.expressions.ask_exprs.Goals as goal
 
-pub returns-in-Some : goal.returns-in-Some
-returns-in-Some c =
+pub returns : goal.returns
+returns c =
     let P = program_in c.args.program.now in
-    one_faulty (expr_ok P) _ c.expr_count-count.ensures _ _ c.find.ensures.ran (λ x b q k. search (rules, tests)) refl (item_2 P) c.in-Some.is
-
-pub returns-in-None : goal.returns-in-None
-returns-in-None c =
-    let P = program_in c.args.program.now in
-    none_faulty (expr_ok P) _ c.expr_count-count.ensures _ _ c.find.ensures.ran (λ x b q k. search (rules, tests)) refl c.in-None.is
+    answered (expr_ok P) _ c.expr_count-count.ensures _ (λ x b q k. search (rules, tests)) refl Expr (λ i. (refl, refl))
+    (item_2 P) _ c.find.ensures.ran c.map_or.ensures (λ i k. search rules)

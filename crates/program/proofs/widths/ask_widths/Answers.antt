@@ -5,7 +5,8 @@ use Rattle.semantics.specs.Program.{Program}
 use Rattle.semantics.specs.Widths.{width_at, width_ok, widths_ok}
 use Rattle.semantics.proofs.Lists.FaultLaws.{item_11, item_11-length}
 use Rattle.program.specs.Answer.{program_in}
-use Rattle.program.proofs.SearchLaws.{none_faulty, one_faulty}
+use Rattle.program.specs.declared.refusal.Refusal.TheVariants.{Width}
+use Rattle.program.proofs.SearchLaws.{answered}
 use Rattle.program.proofs.widths.ask_widths.Goals as goal
 
 abbrev ok : Program → ℕ → Bool
@@ -22,15 +23,9 @@ returns-then-program c =
     let other : length P.widths ≢ P.variables = λ e. omega arith in
     record { right_number = rw (ne_eqb _ _ other); right_item = sym (item_11-length P other) }
 
-pub returns-in-Some : goal.returns-in-Some
-returns-in-Some c =
+pub returns : goal.returns
+returns c =
     let P = program_in c.args.program.now in
     let as_many : length P.widths ≡ P.variables = omega arith in
-    one_faulty (ok P) _ refl _ _ c.find.ensures.ran (λ x b q k. search (rules, tests)) (asks P as_many) (item_11 P as_many)
-    c.in-Some.is
-
-pub returns-in-None : goal.returns-in-None
-returns-in-None c =
-    let P = program_in c.args.program.now in
-    let as_many : length P.widths ≡ P.variables = omega arith in
-    none_faulty (ok P) _ refl _ _ c.find.ensures.ran (λ x b q k. search (rules, tests)) (asks P as_many) c.in-None.is
+    answered (ok P) _ refl _ (λ x b q k. search (rules, tests)) (asks P as_many) Width (λ v. (refl, refl))
+    (item_11 P as_many) _ c.find.ensures.ran c.map_or.ensures (λ v k. search rules)
