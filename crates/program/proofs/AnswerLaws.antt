@@ -1,8 +1,11 @@
 -- Laws of an answer: the item that check gives is that of its number, no refusal has the number 0, the word for C is made of
--- number and item, and the answer to a question tells whether it is answered yes.
-use Rattle.std.proofs.Common.{◌≡◌, ℕ, ◌+◌, ◌*◌, ◌<◌, Bool, true, false, eqb, Ok, Err, refl, sym, ap, ◌∙◌, ne_eqb, arith}
+-- number and item, the answer to a question tells whether it is answered yes, and that to question 1 gives the limits.
+use Rattle.std.proofs.Common.{◌≡◌, ℕ, ◌+◌, ◌*◌, ◌<◌, Bool, true, false, eqb, Result, Ok, Err, refl, sym, ap, ◌∙◌, ne_eqb, arith}
+use Rattle.std.specs.Prelude.{⊤, IfOk, is_ok}
 use Rattle.semantics.specs.Program.{Program}
-use Rattle.semantics.specs.Check.{fault_item}
+use Rattle.semantics.specs.Check.{fault_item, sizes_ok}
+use Rattle.semantics.specs.Facts.{Sized}
+use Rattle.semantics.proofs.Lists.QuestionLaws.{sized_limits}
 use Rattle.program.specs.declared.refusal.Refusal.{Refusal}
 use Rattle.program.specs.declared.refusal.Refusal.TheVariants.{Sizes, Expr, Node, Reference, Lengths, State, Entries, Channels, Stores, Loop, Width, File, Room}
 use Rattle.program.specs.Refusals.{question_number}
@@ -45,3 +48,8 @@ pub answer_to-err : (passes : Bool) (refusal : Refusal) {given : Refusal} → Er
     → (passes ≡ false) × (given ≡ refusal)
 answer_to-err true refusal e = cc
 answer_to-err false refusal e = (refl, cc)
+
+-- where the answer of question 1 is yes, the sizes are within the limits
+pub sized_if_ok : (P : Program) (r : Result ⊤ Refusal) → is_ok r ≡ sizes_ok P → IfOk r (λ _. Sized P)
+sized_if_ok P (Ok x) e = sized_limits P (sym e)
+sized_if_ok P (Err refusal) e = tt

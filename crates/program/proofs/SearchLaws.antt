@@ -1,6 +1,6 @@
 -- Laws of a search for a fault: `find`, over the indices below a count, finds the rules' lowest fault, or none where every
 -- index passes. So it answers the question that is asked of each index.
-use Rattle.std.proofs.Common.{◌≡◌, ℕ, ◌<◌, ◌≤◌, Bool, true, false, not, List, Option, None, Some, Result, Ok, Err, sym, refl, ap, ◌∙◌, subst, inl, inr, zero-le, true≢false}
+use Rattle.std.proofs.Common.{◌≡◌, ℕ, ◌<◌, ◌≤◌, Bool, true, false, not, List, Option, None, Some, Result, Ok, sym, refl, ap, ◌∙◌, subst, inl, inr, zero-le, true≢false}
 use borrow.Author.Tests.{not-true, not-false}
 use denote.Ref.{Bor}
 use denote.Param.Members.{Mut}
@@ -21,8 +21,7 @@ use Rattle.semantics.proofs.Lists.Logic.{true_or_false}
 use Rattle.semantics.proofs.Lists.FaultLaws.{lowest_found, no_item}
 use Rattle.semantics.proofs.Lists.NumberLaws.{every_below, all-below}
 use Rattle.program.specs.declared.refusal.Refusal.{Refusal}
-use Rattle.program.specs.Refusals.{question_number, fault_in}
-use Rattle.program.specs.Answer.{Asked}
+use Rattle.program.specs.Answer.{Asked, number_of, item_of}
 
 module _ (ok : ℕ → Bool) (n : ℕ) where
   -- what std says of such a search below n
@@ -62,16 +61,16 @@ module _ (ok : ℕ → Bool) (n : ℕ) where
         (λ x q k. ((tests x false q k).0, not-false _ (sym (tests x false q k).1)))))
 
     -- a question that is asked of each index, where the lowest fault is refused, is answered right
-    pub answered : {P : Program} {passes : Bool} → passes ≡ every ok (below n) → {question : ℕ} (refusal : ℕ → Refusal)
-        → ((i : ℕ) → (question_number (refusal i) ≡ question) × (fault_in (refusal i) ≡ i))
-        → fault_item P question ≡ lowest_fault ok n → (r : Option ℕ) → Ran r
+    pub answered : {P : Program} {question : ℕ} → fault_item P question ≡ lowest_fault ok n → (r : Option ℕ) → Ran r
         → {answer : Result ⊤ Refusal} {Refuses : ℕ → Type 0} → MatchOption r (answer ≡ Ok tt) Refuses
-        → ((i : ℕ) → Refuses i → answer ≡ Err (refusal i)) → Asked P question passes answer
-    answered {P} asks refusal says item None ran ends refuses =
-        rw ends (record { right_number = rw (asks ∙ searched None ran); right_item = sym (no_item P 0 refl) })
-    answered {P} asks refusal says item (Some i) ran ends refuses =
+        → ((i : ℕ) → Refuses i → (number_of answer ≡ question) × (item_of answer ≡ i))
+        → Asked P question (every ok (below n)) answer
+    answered {P} item None ran ends refuses =
+        rw ends (record { right_number = rw (searched None ran); right_item = sym (no_item P 0 refl) })
+    answered {P} item (Some i) ran ends refuses =
         let f = searched (Some i) ran in
-        rw (refuses i ends) (record {
-          right_number = rw (asks ∙ one_fails i f, (says i).0);
-          right_item = (says i).1 ∙ sym (lowest_found ok n i f) ∙ sym item ∙ ap (fault_item P) (sym (says i).0);
-        })
+        let (number, fault) = refuses i ends in
+        record {
+          right_number = rw (one_fails i f) number;
+          right_item = fault ∙ sym (lowest_found ok n i f) ∙ sym item ∙ ap (fault_item P) (sym number);
+        }

@@ -21,14 +21,10 @@ fn sizes_ok(program: &Program) -> bool
         & (program.chans <= CHANS_MAX)
 }
 
-#[tactic(auto, using(semantics::proofs::Lists::FaultLaws::no_item))]
+#[tactic(auto, using(semantics::proofs::Lists::FaultLaws::no_item, crate::proofs::AnswerLaws::sized_if_ok))]
 pub fn ask_sizes(program: &Program) -> Result<(), Refusal>
     ensures asked { Asked (program_in program.now) 1 (sizes_ok (program_in program.now)) result }
     ensures sized { IfOk result (λ _. Sized (program_in program.now)) }
 {
-    if sizes_ok(program) {
-        Ok(())
-    } else {
-        Err(Refusal::Sizes)
-    }
+    sizes_ok(program).then_some(()).ok_or(Refusal::Sizes)
 }

@@ -1,14 +1,13 @@
 -- `ask_ranges` is question 4: it is answered by a search for a fault.
-use Rattle.std.proofs.Common.{refl, rules, tests}
+use Rattle.std.proofs.Common.{rules, tests}
 use Rattle.semantics.specs.Check.{references_ok}
 use Rattle.semantics.proofs.Lists.FaultLaws.{item_4}
 use Rattle.program.specs.Answer.{program_in}
-use Rattle.program.specs.declared.refusal.Refusal.TheVariants.{Reference}
 use Rattle.program.proofs.SearchLaws.{answered}
 use Rattle.program.proofs.ranges.ask_ranges.Goals as goal
 
 pub returns : goal.returns
 returns c =
     let P = program_in c.args.program.now in
-    answered (references_ok P) _ c.node_count-count.ensures _ (λ x b q k. search (rules, tests)) refl Reference (λ i. (refl, refl))
-    (item_4 P) _ c.find.ensures.ran c.map_or.ensures (λ i k. search rules)
+    answered (references_ok P) _ c.node_count-count.ensures _ (λ x b q k. search (rules, tests)) (item_4 P) _ c.find.ensures.ran
+    c.map_or.ensures (λ i k. search rules)
