@@ -1,17 +1,14 @@
 -- The slots of what is claimed alike after some entries: each has the rank of the one entry that wants it. An entry that wants a
 -- free slot keeps it so, and one that wants a claimed slot shows that two entries want the same.
 use mathlib.Core.Path.{◌≡◌, refl, sym, ap, ◌∙◌, subst}
-use mathlib.Core.Bool.{Bool, true, false, cond, not, ◌&&◌, ◌||◌, true≢false}
+use mathlib.Core.Bool.{Bool, true, false, cond}
 use mathlib.Core.List.{List, [], ◌∷◌, ◌++◌, append-nil}
 use mathlib.Core.Logic.{◌≢◌}
 use Prim.Native.Nat.{ℕ, suc, ◌+◌, ◌≤◌, ◌<◌}
-use native.Mathlib.Nat.{le_refl}
 use native.Mathlib.Numerals.{add-one}
 use native.Mathlib.Omega.{arith}
-use lib.Dec.{eqb}
 use lib.ListN.{length, get_or, take, drop, length-append}
 use lib.Seq.{take_all, take-suc, split_at}
-use borrow.Author.Tests.{eqb-true, eqb-false, eq-eqb}
 use Rattle.semantics.specs.Numbers.{filter}
 use Rattle.semantics.proofs.Lists.NumberLaws.{length-filter}
 use Rattle.player.specs.declared.claims.Slots.{Slots}
@@ -22,12 +19,7 @@ use Rattle.player.specs.Claims.{rank_of, rank_in, is_free, Claimed, wants, Claim
 filter-append : (f : ℕ → Bool) (xs ys : List ℕ) → filter f (xs ++ ys) ≡ filter f xs ++ filter f ys
 unfolding filter
 filter-append f [] ys = refl
-filter-append f (x ∷ xs) ys = pick (f x) (filter-append f xs ys)
-  where
-    pick : (b : Bool) {zs : List ℕ} → zs ≡ filter f xs ++ filter f ys
-        → cond b (x ∷ zs) zs ≡ cond b (x ∷ filter f xs) (filter f xs) ++ filter f ys
-    pick true e = ap (λ (l : List ℕ). x ∷ l) e
-    pick false e = e
+filter-append f (x ∷ xs) ys = grind (arith, filter-append f xs ys)
 
 filter-last : (f : ℕ → Bool) (xs : List ℕ) (x : ℕ) → filter f (xs ++ x ∷ []) ≡ filter f xs ++ cond (f x) (x ∷ []) []
 unfolding filter
@@ -56,57 +48,23 @@ module _ (uses : ℕ → Bool) (key : ℕ → ℕ) (stamp : ℕ) where
   claims_last : (entries : List ℕ) (before after : Slots) (e : ℕ) → Claims uses key entries before stamp
       → (uses e ≡ true → key e < 256) → is_free uses key before stamp e ≡ true
       → Claimed uses key before after stamp e → Claims uses key (entries ++ e ∷ []) after stamp
-  claims_last entries before after e h inside free made slot = record {
-    rank = λ l. made slot l
-        ∙ ranked (wants uses key slot e) refl l
-        ∙ ap rank_of (sym (filter-last (wants uses key slot) entries e));
-    single = subst (λ (xs : List ℕ). length xs ≤ 1) (sym (filter-last (wants uses key slot) entries e))
-        (single (wants uses key slot e) refl);
-  }
-    where
-      old : List ℕ
-      old = wanting slot entries
-
-      none : wants uses key slot e ≡ true → old ≡ []
-      none w = unwanted (uses e) (eqb (key e) slot) refl refl w
-        where
-          unwanted : (u s : Bool) → uses e ≡ u → eqb (key e) slot ≡ s → u && s ≡ true → old ≡ []
-          unwanted true true used same q =
-              let here : key e ≡ slot = eqb-true (key e) slot same in
-              let unclaimed : rank_in before stamp (key e) ≡ 0 = eqb-true _ 0 (rw used at free) in
-              no_rank old
-              (sym ((h slot).rank (rw (sym here) (inside used))) ∙ ap (rank_in before stamp) (sym here) ∙ unclaimed)
-          unwanted true false used same q = absurd (true≢false (sym q))
-          unwanted false s used same q = absurd (true≢false (sym q))
-
-      ranked : (b : Bool) → wants uses key slot e ≡ b → slot < 256
-          → cond b (suc e) (rank_in before stamp slot) ≡ rank_of (old ++ cond b (e ∷ []) [])
-      ranked true w l = rw (none w)
-      ranked false w l = (h slot).rank l ∙ ap rank_of (sym (append-nil old))
-
-      single : (b : Bool) → wants uses key slot e ≡ b → length (old ++ cond b (e ∷ []) []) ≤ 1
-      single true w = rw (none w) (le_refl 1)
-      single false w = rw (append-nil old) (h slot).single
+  claims_last entries before after e h inside free made slot =
+      let old = wanting slot entries in
+      let last = filter-last (wants uses key slot) entries e in
+      record {
+        rank = λ l. grind (arith, append-nil, no_rank old, (h slot).rank, made slot, last);
+        single = grind (arith, append-nil, length-append, no_rank old, (h slot).rank, (h slot).single, last);
+      }
 
   -- an entry that wants a claimed slot is the second that wants it
   claims_clash : (entries : List ℕ) (s : Slots) (e : ℕ) (rest : List ℕ) → Claims uses key entries s stamp
       → (uses e ≡ true → key e < 256) → is_free uses key s stamp e ≡ false
       → (uses e ≡ true) × (2 ≤ length (wanting (key e) (entries ++ e ∷ rest)))
-  claims_clash entries s e rest h inside taken = pick (uses e) refl taken
-    where
-      old : List ℕ
-      old = wanting (key e) entries
-
-      pick : (u : Bool) → uses e ≡ u → not u || eqb (rank_in s stamp (key e)) 0 ≡ false
-          → (uses e ≡ true) × (2 ≤ length (wanting (key e) (entries ++ e ∷ rest)))
-      pick true used busy =
-          let one = some_rank old (λ r. eqb-false _ 0 busy ((h (key e)).rank (inside used) ∙ r)) in
-          let more : length (wanting (key e) (e ∷ rest)) ≡ suc (length (wanting (key e) rest)) =
-          length-filter (wants uses key (key e)) e rest ∙ rw (used, eq-eqb (key e) (key e) refl) in
-          let all =
-          ap length (filter-append (wants uses key (key e)) entries (e ∷ rest)) ∙ length-append old _ in
-          (used, omega arith)
-      pick false used busy = absurd (true≢false busy)
+  claims_clash entries s e rest h inside taken =
+      let f = wants uses key (key e) in
+      let all = filter-append f entries (e ∷ rest) in
+      let more = length-filter f e rest in
+      (grind arith, grind (arith, some_rank (filter f entries), (h (key e)).rank, length-append, all, more))
 
   -- ---- by the number of entries asked so far
 

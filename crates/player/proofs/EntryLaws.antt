@@ -3,22 +3,19 @@
 use mathlib.Core.Path.{◌≡◌, refl, sym, ap, ◌∙◌, subst}
 use mathlib.Core.Bool.{Bool, true, false, cond, not}
 use mathlib.Core.List.{List, [], ◌∷◌}
-use mathlib.Core.Logic.{inl, inr}
-use Prim.Native.Nat.{ℕ, zero, suc, ◌+◌, ◌≤◌, ◌<◌, zero-le, suc-le-suc}
-use native.Mathlib.Nat.{zero-add, le_of_suc-le-suc, suc_inj}
+use Prim.Native.Nat.{ℕ, zero, suc, ◌+◌, ◌≤◌, ◌<◌, zero-le}
+use native.Mathlib.Nat.{zero-add}
 use native.Mathlib.Numerals.{add-one}
 use native.Mathlib.Omega.{arith}
-use lib.Dec.{eqb, leb, eqb-zero-suc, eqb-suc-suc}
-use lib.ListN.{length, get_or, set, take, drop, replicate, length-set, drop_of_length-le}
-use lib.Seq.{take-add, take-length, drop-cons, get_or-take, length-take-le}
-use lib.Seq.{set_comm, set-set, set-get_or}
-use Rattle.std.proofs.lemmas.Grind.{fold-append}
+use lib.Dec.{eqb, leb}
+use lib.ListN.{length, get_or, set, take, drop, replicate, drop_of_length-le}
+use lib.Seq.{take-add, take-length, drop-cons, set-set, set-get_or}
+use Rattle.std.proofs.lemmas.Grind.{fold-append, elements}
 use Rattle.std.proofs.lemmas.List.Sums.{fold_more}
-use borrow.Author.Tests.{eqb-true, eqb-false, eq-eqb, leb-true, not-true}
+use borrow.Author.Tests.{eq-eqb}
 use Rattle.semantics.specs.Numbers.{every}
 use Rattle.semantics.specs.State.{marked, mark_count, marks_are_bits}
 use Rattle.semantics.specs.Cycle.{are_active}
-use Rattle.semantics.proofs.Lists.Logic.{and_left, and_right, both, cond-at, true_or_false}
 use Rattle.semantics.proofs.Lists.ActiveLaws.{marked_below}
 use Rattle.semantics.proofs.Run.CrossOut.{cross_out, mark_count-cross, no_mark_count, active-cross_out}
 use Rattle.player.specs.Entries.{crossable, set_all, CrossedOut}
@@ -27,11 +24,7 @@ use Rattle.player.specs.Entries.{crossable, set_all, CrossedOut}
 
 -- the same word at two places, in either order
 set-swap : (marks : List ℕ) (i j word : ℕ) → set (set marks i word) j word ≡ set (set marks j word) i word
-set-swap marks i j word =
-    elim (true_or_false (eqb i j)) [
-      | inl q ↦ rw (eqb-true i j q)
-      | inr q ↦ set_comm marks i j word word (eqb-false i j q)
-    ]
+set-swap marks i j word = grind (arith, elements)
 
 set_all-set : (word : ℕ) (marks es : List ℕ) (e : ℕ)
     → set_all word (set marks e word) es ≡ set (set_all word marks es) e word
@@ -50,8 +43,7 @@ set_all-more word marks es a b =
 pub crossable_most : (marks entries : List ℕ) → crossable marks entries ≤ length entries
 unfolding crossable
 crossable_most marks [] = zero-le
-crossable_most marks (e ∷ es) =
-    cond-at (λ (k : ℕ). k ≤ suc (length es)) (marked marks e) (suc-le-suc (crossable_most (set marks e 0) es)) zero-le
+crossable_most marks (e ∷ es) = grind (arith, crossable_most (set marks e 0) es)
 
 -- the entries from k on, by the first of them
 pub crossable_next : (marks entries : List ℕ) (k : ℕ) → k < length entries
@@ -65,34 +57,20 @@ crossing : (entries marks : List ℕ) → length entries ≡ mark_count marks
     → cross_out entries marks ≡ eqb (crossable marks entries) (length entries)
 unfolding cross_out crossable
 crossing [] marks e = sym (no_mark_count marks) ∙ eq-eqb 0 (mark_count marks) e
-crossing (e ∷ es) marks same =
-    elim (true_or_false (marked marks e)) [
-      | inl h ↦ rw h
-          (crossing es (set marks e 0) (suc_inj (same ∙ mark_count-cross marks e h))
-          ∙ sym (eqb-suc-suc (crossable (set marks e 0) es) (length es)))
-      | inr h ↦ rw h (sym (eqb-zero-suc (length es)))
-    ]
+crossing (e ∷ es) marks same = grind (arith, crossing es (set marks e 0), mark_count-cross marks e)
 
 -- question 7 is answered yes exactly when all entries can be crossed out
 pub active_crossable : (marks entries : List ℕ) → length entries ≡ mark_count marks
     → are_active marks entries ≡ eqb (crossable marks entries) (length entries)
 active_crossable marks entries same = active-cross_out marks entries ∙ crossing entries marks same
 
--- where an entry can be crossed out, the first is marked
-first_marked : (marks : List ℕ) (e : ℕ) (es : List ℕ) (j : ℕ) → j < crossable marks (e ∷ es) → marked marks e ≡ true
-unfolding crossable
-first_marked marks e es j l =
-    elim (true_or_false (marked marks e)) [ inl h ↦ h | inr h ↦ absurd (omega (arith, rw h at l)) ]
-
 -- each entry that can be crossed out is a node's number
 pub crossable_below : (marks entries : List ℕ) (j : ℕ) → j < crossable marks entries
     → get_or entries j 0 < length marks
 unfolding crossable
 crossable_below marks [] j l = absurd (omega arith)
-crossable_below marks (e ∷ es) zero l = marked_below marks e (first_marked marks e es 0 l)
-crossable_below marks (e ∷ es) (suc j) l =
-    let h = first_marked marks e es (suc j) l in
-    rw (length-set marks e 0) at (crossable_below (set marks e 0) es j (le_of_suc-le-suc (rw h at l)))
+crossable_below marks (e ∷ es) zero l = grind (arith, marked_below marks e)
+crossable_below marks (e ∷ es) (suc j) l = grind (arith, elements, crossable_below (set marks e 0) es j)
 
 -- ---- entry by entry
 
@@ -109,36 +87,22 @@ module _ {entries start : List ℕ} {k : ℕ} {marks : List ℕ} (h : CrossedOut
 
   pub crossed-all : length entries ≤ k → length entries ≡ crossable start entries
   unfolding crossable
-  crossed-all l =
-      let within = h.within in
-      let e : length entries ≡ k = omega arith in
-      e ∙ sym (h.rest ∙ rw (drop_of_length-le entries {i = k} l) (omega arith))
+  crossed-all l = grind (arith, h.within, h.rest, drop_of_length-le entries {i = k} l)
 
   module _ (l : k < length entries) where
     -- the next has no mark, or none any more
     pub crossed_stops : marked marks (get_or entries k 0) ≡ false → crossable marks (drop k entries) ≡ 0
-    crossed_stops m = crossable_next marks entries k l ∙ rw m
-
-    pub crossed_most : marked marks (get_or entries k 0) ≡ false → k ≡ crossable start entries
-    crossed_most m = sym (h.rest ∙ rw (crossed_stops m) (omega arith))
+    crossed_stops m = grind (arith, crossable_next marks entries k l)
 
     -- the next is crossed out
     pub crossed_next : marked marks (get_or entries k 0) ≡ true
         → CrossedOut entries start (k + 1) (set marks (get_or entries k 0) 0)
-    crossed_next m =
-        let more : crossable marks (drop k entries)
-        ≡ suc (crossable (set marks (get_or entries k 0) 0) (drop (k + 1) entries)) =
-        crossable_next marks entries k l ∙ rw m in
-        record {
-          within = omega arith;
-          same_length = length-set marks (get_or entries k 0) 0 ∙ h.same_length;
-          right = ap (λ (m : List ℕ). set m (get_or entries k 0) 0) h.right
-              ∙ sym (fold_more (λ m e. set m e 0) start entries k 0 l);
-          rest = omega (arith, h.rest, more);
-        }
-
--- what `cross_out` goes by
-pub ruleset crossing_out = (crossed-all, crossed_most, crossed_next)
+    crossed_next m = record {
+      within = omega arith;
+      same_length = grind (arith, elements, h.same_length);
+      right = grind (arith, h.right, fold_more (λ m e. set m e 0) start entries k 0 l);
+      rest = grind (arith, h.rest, crossable_next marks entries k l);
+    }
 
 -- ---- crossed out and marked again
 
@@ -150,25 +114,15 @@ marked_again marks [] zero l = refl
 marked_again marks [] (suc r) l = refl
 marked_again marks (e ∷ es) zero l = refl
 marked_again marks (e ∷ es) (suc r) l =
-    let first = take r es in
-    let h = first_marked marks e es r l in
-    set_all-set 1 (set_all 0 (set marks e 0) first) first e
-    ∙ ap (λ (m : List ℕ). set m e 1) (marked_again (set marks e 0) es r (le_of_suc-le-suc (rw h at l)))
-    ∙ set-set marks e 0 1
-    ∙ ap (λ (m : ℕ). set marks e m) (sym (eqb-true (get_or marks e 0) 1 h))
-    ∙ set-get_or marks e 0
+    grind (arith, set_all-set, marked_again (set marks e 0) es r, set-set, set-get_or)
 
 module _ (marks entries : List ℕ) (r : ℕ) (e : r ≡ crossable marks entries) where
   -- the first r entries, those that are crossed out, are nodes
   pub part_length : r ≡ length (take r entries)
-  part_length = let most = crossable_most marks entries in sym (length-take-le r entries (omega arith))
+  part_length = grind (arith, elements, crossable_most marks entries)
 
   pub part_inside : (k : ℕ) → k < length (take r entries) → get_or (take r entries) k 0 < length marks
-  part_inside k l =
-      let same = part_length in
-      let here = get_or-take r entries k 0 (omega arith) in
-      let inside = crossable_below marks entries k (omega arith) in
-      omega arith
+  part_inside k l = grind (arith, elements, crossable_most marks entries, crossable_below marks entries k)
 
   pub crossed_back : set_all 1 (set_all 0 marks (take r entries)) (take r entries) ≡ marks
   crossed_back = marked_again marks entries r (omega arith)
@@ -180,33 +134,25 @@ no_bits : (marks : List ℕ) → every (λ m. not (eqb m 1)) marks ≡ true → 
     → marks ≡ replicate (length marks) 0
 unfolding every
 no_bits [] n b = refl
-no_bits (m ∷ ms) n b =
-    let other = eqb-false m 1 (not-true (eqb m 1) (and_left (not (eqb m 1)) _ n)) in
-    let most = leb-true m 1 (and_left (leb m 1) _ b) in
-    let e : m ≡ 0 = omega arith in
-    λ i. e i ∷ no_bits ms (and_right (not (eqb m 1)) _ n) (and_right (leb m 1) _ b) i
+no_bits (m ∷ ms) n b = grind (arith, no_bits ms)
 
 every_set : (f : ℕ → Bool) (xs : List ℕ) (i x : ℕ) → f x ≡ true → every f xs ≡ true → every f (set xs i x) ≡ true
 unfolding every
 every_set f [] i x h a = refl
-every_set f (y ∷ ys) zero x h a = both h (and_right (f y) _ a)
-every_set f (y ∷ ys) (suc i) x h a = both (and_left (f y) _ a) (every_set f ys i x h (and_right (f y) _ a))
+every_set f (y ∷ ys) zero x h a = grind arith
+every_set f (y ∷ ys) (suc i) x h a = grind (arith, every_set f ys i x h)
 
 crossed_zeros : (entries marks : List ℕ) → cross_out entries marks ≡ true → every (λ m. leb m 1) marks ≡ true
     → set_all 0 marks entries ≡ replicate (length marks) 0
 unfolding cross_out
 crossed_zeros [] marks o b = no_bits marks o b
 crossed_zeros (e ∷ es) marks o b =
-    crossed_zeros es (set marks e 0) (and_right (marked marks e) _ o) (every_set (λ m. leb m 1) marks e 0 refl b)
-    ∙ ap (λ (n : ℕ). replicate n 0) (length-set marks e 0)
+    grind (arith, elements, crossed_zeros es (set marks e 0), every_set (λ m. leb m 1) marks e 0 refl b)
 
 module _ (marks entries : List ℕ) (active : are_active marks entries ≡ true) where
   pub all-crossable : crossable marks entries ≡ length entries
   unfolding are_active
-  all-crossable =
-      let same = eqb-true (length entries) (mark_count marks)
-      (and_left (eqb (length entries) (mark_count marks)) _ (and_left _ _ active)) in
-      eqb-true _ _ (sym (active_crossable marks entries same) ∙ active)
+  all-crossable = grind (arith, active_crossable marks entries)
 
   pub all-taken : take (crossable marks entries) entries ≡ entries
   all-taken = ap (λ (k : ℕ). take k entries) all-crossable ∙ take-length entries

@@ -1,25 +1,20 @@
 -- The table of live children: when the nodes from i on are added, its number at a node is that of the node's live
 -- children from i on. So when the pass comes to a node, its number there is that of all its live children.
-use mathlib.Core.Path.{◌≡◌, refl, sym, ap, ◌∙◌, subst}
-use mathlib.Core.Bool.{Bool, true, false, cond, ◌&&◌, ◌||◌, and-true, and-false, true≢false}
+use mathlib.Core.Path.{◌≡◌, sym, ap, ◌∙◌}
+use mathlib.Core.Bool.{true, false, ◌||◌}
 use mathlib.Core.List.{List}
 use mathlib.Core.Option.{some}
-use mathlib.Core.Logic.{inl, inr}
-use Prim.Native.Nat.{ℕ, suc, ◌+◌, ◌≤◌, ◌<◌}
+use Prim.Native.Nat.{ℕ, suc, ◌≤◌, ◌<◌}
 use native.Mathlib.Nat.{le_refl}
 use Rattle.std.proofs.Common.{◌-◌}
-use native.Mathlib.Numerals.{add-one}
 use native.Mathlib.Omega.{arith}
-use lib.Dec.{eqb, ltb}
-use lib.ListN.{length, get_or, set, replicate, length-set, length-replicate, get_or-replicate}
-use borrow.Author.Tests.{eq-eqb, ne_eqb, lt-ltb, le-ltb}
-use Rattle.semantics.specs.Numbers.{below, every}
+use lib.Dec.{ltb}
+use lib.ListN.{length, get_or, replicate, length-replicate, get_or-replicate}
+use Rattle.std.proofs.lemmas.Grind.{elements}
 use Rattle.semantics.specs.Program.{Program, node_count, kind_at, parent_at}
-use Rattle.semantics.specs.Parents.{parent, is_child}
-use Rattle.semantics.specs.State.{marked, holds_mark, live_children, control_formed}
+use Rattle.semantics.specs.Parents.{parent}
+use Rattle.semantics.specs.State.{marked, live_children, control_formed}
 use Rattle.semantics.specs.Facts.{locally_ok, node_well_formed}
-use Rattle.semantics.proofs.Lists.Logic.{lt_or_le, refuted}
-use Rattle.semantics.proofs.Lists.ListLaws.{set_reads}
 use Rattle.semantics.proofs.Lists.NumberLaws.{every_below, all-below}
 use Rattle.semantics.proofs.Lists.ParentLaws.{is_parent}
 use Rattle.semantics.proofs.Tree.NodeLaws.{parent_word, root_parent}
@@ -27,24 +22,6 @@ use Rattle.semantics.proofs.Tree.LiveChildren.{live_from_last, live_from_most, l
 use Rattle.semantics.proofs.Tree.LiveChildren.{holds_mark-own}
 use Rattle.semantics.proofs.Tree.WellFormedLocally.{control_formed-locally}
 use Rattle.player.specs.WellFormed.{ListsFit, added_to_parent, ParentFits, LiveTable}
-
--- one more at p
-one_more : (live : List ℕ) (p h : ℕ) → p < length live
-    → get_or (set live p (get_or live p 0 + 1)) h 0 ≡ cond (eqb p h) (suc (get_or live h 0)) (get_or live h 0)
-one_more live p h l =
-    set_reads live p (get_or live p 0 + 1) 0 l (λ k n. n ≡ cond (eqb p k) (suc (get_or live k 0)) (get_or live k 0))
-    (rw (eq-eqb p p refl) (add-one _)) h (λ d. rw (ne_eqb p h (λ e. d (sym e))))
-
-added-length : (nodes : List ℕ) (i : ℕ) (holds : Bool) (live : List ℕ)
-    → length (added_to_parent nodes i holds live) ≡ length live
-added-length nodes i holds live = pick (holds && ltb 0 i)
-  where
-    h : ℕ
-    h = parent_at nodes i
-
-    pick : (b : Bool) → length (cond b (set live h (get_or live h 0 + 1)) live) ≡ length live
-    pick true = length-set live h _
-    pick false = refl
 
 -- the table begins with zeros
 pub table_start : {P : Program} {marks counts : List ℕ} → ListsFit P marks counts
@@ -86,32 +63,16 @@ module _ {P : Program} {marks counts : List ℕ} {i : ℕ} {live : List ℕ} (li
       }
 
   -- the parent of node i has one more, where node i holds a mark
-  added_at : (h : ℕ) (holds : Bool)
-      → get_or (added_to_parent P.nodes i holds live) h 0
-      ≡ cond (is_child P.nodes h i && holds) (suc (get_or live h 0)) (get_or live h 0)
-  added_at h false = rw (and-false (is_child P.nodes h i))
-  added_at h true =
-      rw (and-true (is_child P.nodes h i))
-      (elim (lt_or_le 0 i) [
-        | inl z ↦ rw (lt-ltb 0 i z, is_parent_word z) (one_more live (parent_at P.nodes i) h (parent_fits.inside z))
-        | inr z ↦
-            let q : i ≡ 0 = omega arith in
-            rw (le-ltb 0 i z, ap (parent P.nodes) q ∙ root_parent P.nodes)
-      ])
-
   pub table_step : LiveTable P.nodes marks i (added_to_parent P.nodes i (marked marks i || ltb 0 (get_or live i 0)) live)
   table_step =
-      let old = table.entries in
+      let holds = holds_mark-own P.nodes marks lists.accepted.nodes_ok lists.marks_fit i inside in
       record {
-        size = added-length P.nodes i (marked marks i || ltb 0 (get_or live i 0)) live ∙ table.size;
+        size = grind (arith, elements, table.size);
         entries = λ h l.
-            added_at h (marked marks i || ltb 0 (get_or live i 0))
-            ∙ (λ n. cond (is_child P.nodes h i && holds n) (suc (old h l n)) (old h l n))
-            ∙ sym (live_from_step P.nodes marks i h inside);
+            let step = live_from_step P.nodes marks i h inside in
+            let none = root_parent P.nodes in
+            grind (arith, elements, is_parent_word, parent_fits.inside, none, table.entries h, own_live, holds, step);
       }
-    where
-      holds : marked marks i || ltb 0 (get_or live i 0) ≡ holds_mark P.nodes marks i
-      holds = rw own_live (sym (holds_mark-own P.nodes marks lists.accepted.nodes_ok lists.marks_fit i inside))
 
 -- ---- the pass has asked the nodes from i on and added them to the table
 pub record Passed (nodes marks counts : List ℕ) (i : ℕ) (live : List ℕ) : Type 0 where
@@ -144,11 +105,7 @@ module _ {P : Program} {marks counts : List ℕ} (lists : ListsFit P marks count
         record {
           within = omega arith;
           table = table_step lists passed.within passed.table;
-          right = λ j v f. elim (lt_or_le i j) [
-            | inl w ↦ passed.right j w f
-            | inr w ↦
-                let e : i ≡ j = omega arith in subst (λ (k : ℕ). locally_ok P.nodes marks counts k ≡ true) e right
-          ];
+          right = λ j v f. grind (arith, passed.right j);
         }
 
   -- what question 6 asks of marks and counts, where the pass has come to the first node
@@ -161,6 +118,5 @@ module _ {P : Program} {marks counts : List ℕ} (lists : ListsFit P marks count
   pub not_formed : (i : ℕ) → i < node_count P.nodes → locally_ok P.nodes marks counts i ≡ false
       → control_formed P.nodes marks counts ≡ false
   not_formed i l wrong =
-      control_formed-locally P.nodes marks counts lists.accepted.nodes_ok lists.marks_fit
-      ∙ refuted (every (locally_ok P.nodes marks counts) (below (node_count P.nodes)))
-      (λ h. true≢false (sym (every_below (locally_ok P.nodes marks counts) (node_count P.nodes) h i l) ∙ wrong))
+      let locally = control_formed-locally P.nodes marks counts lists.accepted.nodes_ok lists.marks_fit in
+      grind (arith, locally, every_below (locally_ok P.nodes marks counts) (node_count P.nodes))

@@ -1,14 +1,14 @@
 -- Widths and masks in code: the mask of a width, what a variable keeps by its mask, and the masks that a run starts with.
-use Rattle.std.proofs.Common.{◌≡◌, ℕ, ◌-◌, ◌/◌, ◌^◌, ◌<◌, ◌≤◌, zero, suc, Bool, ◌&&◌, eqb, leb, ltb, List, length, get_or, refl, sym, ap, ◌∙◌, arith, add-one}
+use Rattle.std.proofs.Common.{◌≡◌, ℕ, ◌-◌, ◌/◌, ◌^◌, ◌<◌, ◌≤◌, zero, suc, Bool, eqb, leb, ltb, List, length, get_or, refl, sym, ap, ◌∙◌, arith}
 use lib.Bits.{and_mask}
 use lib.Pow.{le_ones, lt_of_le_ones}
-use borrow.Author.Tests.{eqb-true, leb-true, ltb-true, le-leb, lt-ltb}
+use borrow.Author.Tests.{eqb-true, leb-true}
 use Rattle.std.specs.List.{list_all, range_with_len}
 use Rattle.semantics.specs.Numbers.{up_from, below, every}
 use Rattle.semantics.specs.Program.{Program}
 use Rattle.semantics.specs.Widths.{width_at, truncated, width_ok, values_in_range}
 use Rattle.semantics.specs.Facts.{WidthsFit}
-use Rattle.semantics.proofs.Lists.Logic.{and_left, and_right, bool_eq}
+use Rattle.semantics.proofs.Lists.Logic.{and_left, and_right}
 use Rattle.semantics.proofs.Lists.NumberLaws.{every_below}
 use Rattle.player.specs.declared.work.Work.{Work}
 use Rattle.player.specs.Work.{Masks, masked_by}
@@ -37,15 +37,12 @@ masked widths work v value masks l = rw (masks v l) (and_mask value (width_at wi
 
 -- at most the mask is less than the power
 within_mask : (w x : ℕ) → leb x (2 ^ w - 1) ≡ ltb x (2 ^ w)
-within_mask w x = bool_eq _ _
-    (λ h. lt-ltb x (2 ^ w) (lt_of_le_ones w (leb-true _ _ h)))
-    (λ h. le-leb x (2 ^ w - 1) (le_ones w (ltb-true _ _ h)))
+within_mask w x = grind (arith, lt_of_le_ones, le_ones)
 
 all-from : (f g : ℕ → Bool) → ((v : ℕ) → f v ≡ g v) → (n a : ℕ) → list_all f (range_with_len a n) ≡ every g (up_from n a)
 unfolding every up_from
 all-from f g same zero a = refl
-all-from f g same (suc n) a =
-    (λ i. same a i && list_all f (range_with_len (add-one a i) n)) ∙ ap (λ (b : Bool). g a && b) (all-from f g same n (suc a))
+all-from f g same (suc n) a = grind (arith, same, all-from f g same n (suc a))
 
 pub values_within : (widths values : List ℕ) (n : ℕ) → length values ≡ n
     → list_all (λ v. leb (get_or values v 0) (2 ^ width_at widths v - 1)) (range_with_len 0 n) ≡ values_in_range widths values

@@ -1,11 +1,10 @@
 -- What is known of the values of expressions: in equal values of the variables they are equal, and what a note, a pass or a new
 -- moment leaves known.
-use Rattle.std.proofs.Common.{◌≡◌, ◌≢◌, ℕ, zero, suc, ◌+◌, ◌<◌, ◌≤◌, Bool, true, false, not, cond, eqb, List, [], ◌∷◌, ◌++◌, length, get_or, set, refl, sym, ap, ◌∙◌, subst, arith, length-set, get_or-set_other}
-use borrow.Author.Tests.{eqb-true}
-use Rattle.semantics.specs.Program.{Program, Op, op_at, p_at, q_at, expr_count}
+use Rattle.std.proofs.Common.{◌≡◌, ℕ, zero, suc, ◌+◌, ◌<◌, ◌≤◌, Bool, not, cond, eqb, List, length, get_or, set, refl, sym, ap, ◌∙◌, arith}
+use Rattle.std.proofs.lemmas.Grind.{elements}
+use Rattle.semantics.specs.Program.{Program, Op, expr_count}
 use Rattle.semantics.specs.Program.Op.{NUMBER, VARIABLE, BINARY, UNKNOWN}
 use Rattle.semantics.specs.Expressions.{value_of as rule_value, first_values, expr_values, is_true}
-use Rattle.semantics.proofs.Lists.ListLaws.{set_reads}
 use Rattle.player.specs.declared.memo.Memo.{Memo}
 use Rattle.player.specs.Memo.{Known, Unworked, Holds, Worked, WorkedNow, WorkedTo, noted, value_of}
 use Rattle.player.specs.Walks.{holds_now}
@@ -23,10 +22,7 @@ module _ (exprs a b : List ℕ) (alike : (v : ℕ) → get_or a v 0 ≡ get_or b
   same_first : (n : ℕ) → first_values exprs a n ≡ first_values exprs b n
   unfolding first_values
   same_first zero = refl
-  same_first (suc n) =
-      ap (λ (before : List ℕ). before ++ rule_value a before (op_at exprs n) (p_at exprs n) (q_at exprs n) ∷ []) (same_first n)
-      ∙ ap (λ (x : ℕ). first_values exprs b n ++ x ∷ [])
-      (same_value (first_values exprs b n) (op_at exprs n) (p_at exprs n) (q_at exprs n))
+  same_first (suc n) = grind (arith, same_first n, same_value)
 
   pub alike_values : expr_values exprs a ≡ expr_values exprs b
   alike_values = same_first (expr_count exprs)
@@ -47,22 +43,15 @@ same_conditions P values memo holds =
 module _ (exprs : List ℕ) (memo : Memo) (e value : ℕ) (l : e < 1024) (k : Known exprs memo)
     (right : value ≡ value_of exprs memo.variables e) where
   pub known_noted : Known exprs (noted memo e value)
-  known_noted =
-      let size = k.size in
-      record {
-        size = record {
-          variables = size.variables;
-          formulas = length-set memo.formulas e value ∙ size.formulas;
-          moments = length-set memo.moments e memo.present ∙ size.moments;
-        };
-        right = λ j u h.
-            set_reads memo.formulas e value 0 (let s = size.formulas in omega arith)
-            (λ (x y : ℕ). y ≡ value_of exprs memo.variables x) right j
-            (λ n. k.right j u (sym (get_or-set_other memo.moments e j memo.present 0 n) ∙ h));
-        past = λ j u.
-            set_reads memo.moments e memo.present 0 (let s = size.moments in omega arith)
-            (λ (x y : ℕ). y ≤ memo.present) (omega arith) j (λ n. k.past j u);
-      }
+  known_noted = record {
+    size = record {
+      variables = k.size.variables;
+      formulas = grind (arith, elements, k.size);
+      moments = grind (arith, elements, k.size);
+    };
+    right = λ j u h. grind (arith, elements, k.size, k.right j);
+    past = λ j u. grind (arith, elements, k.size, k.past j);
+  }
 
 -- after its operands
 pub worked_after : (exprs : List ℕ) (before memo₁ memo₂ : Memo) (e value p q x y : ℕ) → e < 1024
@@ -93,40 +82,24 @@ module _ (exprs : List ℕ) (memo : Memo) (i last : ℕ) where
     -- the value of expression i is written
     pub worked_next : (value : ℕ) → i < 1024 → value ≡ value_of exprs memo.variables i
         → WorkedTo exprs (record memo { formulas = set memo.formulas i value }) (i + 1) value
-    worked_next value l right =
-        let known = w.known in
-        let size = known.size in
-        let stays : (e : ℕ) → (e ≢ i → get_or memo.formulas e 0 ≡ value_of exprs memo.variables e)
-        → get_or (set memo.formulas i value) e 0 ≡ value_of exprs memo.variables e =
-        set_reads memo.formulas i value 0 (let s = size.formulas in omega arith)
-        (λ (x y : ℕ). y ≡ value_of exprs memo.variables x) right in
-        record {
-          known = record {
-            size = record {
-              variables = size.variables;
-              formulas = length-set memo.formulas i value ∙ size.formulas;
-              moments = size.moments;
-            };
-            right = λ e u h. stays e (λ n. known.right e u h);
-            past = known.past;
-          };
-          stand = λ e u. stays e (λ n. w.stand e (omega arith));
-          right = λ e (h : suc e ≡ i + 1).
-              let d : i ≡ e = omega arith in
-              subst (λ (x : ℕ). value ≡ value_of exprs memo.variables x) d right;
-        }
+    worked_next value l right = record {
+      known = record {
+        size = record {
+          variables = w.known.size.variables;
+          formulas = grind (arith, elements, w.known.size);
+          moments = w.known.size.moments;
+        };
+        right = λ e u h. grind (arith, elements, w.known.size, w.known.right e);
+        past = w.known.past;
+      };
+      stand = λ e u. grind (arith, elements, w.known.size, w.stand e);
+      right = λ e (h : suc e ≡ i + 1). grind (arith, elements);
+    }
 
     -- the value of one before i, read back or not
     pub value_before : (prev p : ℕ) → p < i → (0 < i → suc prev ≡ i)
         → cond (eqb p prev) last (get_or memo.formulas p 0) ≡ value_of exprs memo.variables p
-    value_before prev p l at = pick (eqb p prev) refl
-      where
-        pick : (b : Bool) → eqb p prev ≡ b → cond b last (get_or memo.formulas p 0) ≡ value_of exprs memo.variables p
-        pick true t =
-            let d = eqb-true p prev t in
-            let here = at (omega arith) in
-            w.right p (omega arith)
-        pick false t = w.stand p l
+    value_before prev p l at = grind (arith, w.right p, w.stand p)
 
 -- ---- moments
 

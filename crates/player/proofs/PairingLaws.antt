@@ -3,12 +3,10 @@
 use mathlib.Core.Path.{◌≡◌, refl, sym, ap, ◌∙◌, subst}
 use mathlib.Core.Bool.{Bool, true, false, ◌&&◌, or-false}
 use mathlib.Core.List.{List, [], ◌∷◌}
-use mathlib.Core.Logic.{◌⊎◌, inl, inr}
 use Prim.Native.Nat.{ℕ, ◌+◌, ◌≤◌, ◌<◌}
 use native.Mathlib.Omega.{arith}
 use lib.Dec.{eqb, leb, eqb-suc-zero}
 use lib.ListN.{length, get_or, take}
-use borrow.Author.Tests.{le-leb, leb-true}
 use Rattle.semantics.specs.Numbers.{filter}
 use Rattle.semantics.specs.Program.{Program, Leaf, node_count, kind_at, a_at, leaf_test}
 use Rattle.semantics.specs.Program.Kind.{LEAF}
@@ -16,7 +14,6 @@ use Rattle.semantics.specs.Program.Leaf.{IN, OUT}
 use Rattle.semantics.specs.State.{marked}
 use Rattle.semantics.specs.Completion.{is_in, is_out, is_empty, marked_on, waits, channels_free}
 use Rattle.semantics.specs.Facts.{Accepted}
-use Rattle.semantics.proofs.Lists.Logic.{and_left, and_right, both, refuted}
 use Rattle.semantics.proofs.Lists.NumberLaws.{every_below, all-below}
 use Rattle.semantics.proofs.Run.EntryCounts.{single_entry}
 use Rattle.player.specs.declared.claims.Slots.{Slots}
@@ -66,10 +63,8 @@ pub record PairedTo (nodes entries : List ℕ) (k : ℕ) (before claims : CodeCl
 
 pub paired_none : (nodes entries : List ℕ) {claims : CodeClaims} → Fresh claims → PairedTo nodes entries 0 claims claims
 paired_none nodes entries {claims} f = record {
-  ins = claims_none (has_kind nodes is_in) (a_at nodes) claims.stamp claims.inputs
-      (λ c l. unclaimed_rank c f.inputs l);
-  outs = claims_none (has_kind nodes is_out) (a_at nodes) claims.stamp claims.outputs
-      (λ c l. unclaimed_rank c f.outputs l);
+  ins = claims_none _ _ _ _ (λ c l. unclaimed_rank c f.inputs l);
+  outs = claims_none _ _ _ _ (λ c l. unclaimed_rank c f.outputs l);
   only = fresh_channels f;
 }
 
@@ -78,13 +73,10 @@ pub paired_more : {P : Program} {entries : List ℕ} {k : ℕ} {before claims cl
     → get_or entries k 0 < node_count P.nodes → PairedTo P.nodes entries k before claims → k < length entries
     → EntryPairing P.nodes (get_or entries k 0) true claims claims' → PairedTo P.nodes entries (k + 1) before claims'
 paired_more {P} {entries} {k} {before} {claims} {claims'} ok inside h l p = record {
-  ins = rw p.stamp (claims_more (has_kind P.nodes is_in) (a_at P.nodes) claims.stamp entries k l claims.inputs
-      claims'.inputs h.ins (node_in_fits ok (get_or entries k 0) inside) (and_left _ _ (sym p.was_free)) (p.inputs refl));
-  outs = rw p.stamp (claims_more (has_kind P.nodes is_out) (a_at P.nodes) claims.stamp entries k l claims.outputs
-      claims'.outputs h.outs (node_out_fits ok (get_or entries k 0) inside)
-      (and_right (is_free (has_kind P.nodes is_in) (a_at P.nodes) claims.inputs claims.stamp (get_or entries k 0)) _
-      (sym p.was_free))
-      (p.outputs refl));
+  ins = rw p.stamp
+      (claims_more _ _ _ entries k l _ _ h.ins (node_in_fits ok _ inside) (grind (arith, p.was_free)) (p.inputs refl));
+  outs = rw p.stamp
+      (claims_more _ _ _ entries k l _ _ h.outs (node_out_fits ok _ inside) (grind (arith, p.was_free)) (p.outputs refl));
   only = more_channels h.only p;
 }
 
@@ -116,8 +108,8 @@ module _ {P : Program} {entries : List ℕ} (x : CycleOf P entries) where
       → Pairing P entries before claims
   unfolding channels_free
   all-paired {before} {claims} o hi ho = record {
-    free = all-below (λ c. single is_in c && single is_out c) P.channels (λ c l. both
-        (on_single is_in c ∙ le-leb _ 1 (hi c).single) (on_single is_out c ∙ le-leb _ 1 (ho c).single));
+    free = all-below (λ c. single is_in c && single is_out c) P.channels
+        (λ c l. grind (arith, on_single is_in c, on_single is_out c, (hi c).single, (ho c).single));
     paired = record {
       inputs_size = o.aged.inputs.size;
       outputs_size = o.aged.outputs.size;
@@ -133,57 +125,32 @@ module _ {P : Program} {entries : List ℕ} (x : CycleOf P entries) where
           → Ranked P marks f s claims.stamp
       ranked f s h c l = (h c).rank l ∙ ap rank_of (on_same f c (h c).single)
 
-  -- two entries want one channel
-  not_paired : (c : ℕ) → c < P.channels → (2 ≤ length (on_channel is_in c)) ⊎ (2 ≤ length (on_channel is_out c))
-      → channels_free P marks ≡ false
+  -- no two entries want one channel
+  each_once : (c : ℕ) → channels_free P marks ≡ true → c < P.channels
+      → (length (on_channel is_in c) ≤ 1) × (length (on_channel is_out c) ≤ 1)
   unfolding channels_free
-  not_paired c l two =
-      refuted _ (λ h. clash (every_below (λ c. single is_in c && single is_out c) P.channels h c l) two)
-    where
-      twice : (f : Leaf → Bool) → single f c ≡ true → 2 ≤ length (on_channel f c) → ⊥
-      twice f h two = let most = leb-true (length (on_channel f c)) 1 (sym (on_single f c) ∙ h) in omega arith
-
-      clash : single is_in c && single is_out c ≡ true
-          → (2 ≤ length (on_channel is_in c)) ⊎ (2 ≤ length (on_channel is_out c)) → ⊥
-      clash h (inl t) = twice is_in (and_left _ _ h) t
-      clash h (inr t) = twice is_out (and_right (single is_in c) _ h) t
+  each_once c h l =
+      let here = every_below (λ c. single is_in c && single is_out c) P.channels h c l in
+      (grind (arith, on_single is_in c), grind (arith, on_single is_out c))
 
   -- ---- entry by entry
 
   module _ {k : ℕ} {before claims : CodeClaims} (h : PairedTo P.nodes entries k before claims) where
     pub paired-all : length entries ≤ k → Pairing P entries before claims
     paired-all l =
-        all-paired h.only (claims-all (has_kind P.nodes is_in) (a_at P.nodes) claims.stamp entries claims.inputs k l h.ins)
-        (claims-all (has_kind P.nodes is_out) (a_at P.nodes) claims.stamp entries claims.outputs k l h.outs)
+        all-paired h.only (claims-all _ _ _ entries _ k l h.ins) (claims-all _ _ _ entries _ k l h.outs)
 
     -- the next finds its channel claimed
     pub paired_refused : k < length entries
         → is_free (has_kind P.nodes is_in) (a_at P.nodes) claims.inputs claims.stamp (get_or entries k 0)
         && is_free (has_kind P.nodes is_out) (a_at P.nodes) claims.outputs claims.stamp (get_or entries k 0) ≡ false
         → channels_free P marks ≡ false
-    paired_refused l =
-        pick (is_free (has_kind P.nodes is_in) (a_at P.nodes) claims.inputs claims.stamp (get_or entries k 0)) refl
-      where
-        entry : ℕ
-        entry = get_or entries k 0
-
-        in_here : has_kind P.nodes is_in entry ≡ true → a_at P.nodes entry < P.channels
-        in_here = in_channel x entry (entry_marked x k l)
-
-        out_here : has_kind P.nodes is_out entry ≡ true → a_at P.nodes entry < P.channels
-        out_here = out_channel x entry (entry_marked x k l)
-
-        pick : (b : Bool) → is_free (has_kind P.nodes is_in) (a_at P.nodes) claims.inputs claims.stamp entry ≡ b
-            → b && is_free (has_kind P.nodes is_out) (a_at P.nodes) claims.outputs claims.stamp entry ≡ false
-            → channels_free P marks ≡ false
-        pick true e t =
-            let r = claims_refused (has_kind P.nodes is_out) (a_at P.nodes) claims.stamp entries k l claims.outputs h.outs
-            (λ i. channel_fits x (out_here i)) t in
-            not_paired (a_at P.nodes entry) (out_here r.0) (inr r.1)
-        pick false e t =
-            let r = claims_refused (has_kind P.nodes is_in) (a_at P.nodes) claims.stamp entries k l claims.inputs h.ins
-            (λ i. channel_fits x (in_here i)) e in
-            not_paired (a_at P.nodes entry) (in_here r.0) (inl r.1)
+    paired_refused l taken =
+        let entry = get_or entries k 0 in
+        let m = entry_marked x k l in
+        let ins = claims_refused _ _ _ entries k l _ h.ins (λ u. channel_fits x (in_channel x entry m u)) in
+        let outs = claims_refused _ _ _ entries k l _ h.outs (λ u. channel_fits x (out_channel x entry m u)) in
+        grind (arith, ins, outs, in_channel x entry m, out_channel x entry m, each_once (a_at P.nodes entry))
 
   -- ---- which leaves wait
 
@@ -192,17 +159,15 @@ module _ {P : Program} {entries : List ℕ} (x : CycleOf P entries) where
         → waits P marks i ≡ eqb (rank_in claims.outputs claims.stamp (a_at P.nodes i)) 0
     unfolding waits
     in_waits k =
-        rw (k, or-false) (empty_rank (marked_on P marks is_out (a_at P.nodes i))
-        ∙ ap (λ (n : ℕ). eqb n 0)
-        (sym (p.outputs (a_at P.nodes i) (channel_fits x (in_channel x i m (ap (leaf_test is_in) k))))))
+        rw (k, or-false, p.outputs (a_at P.nodes i) (channel_fits x (in_channel x i m (ap (leaf_test is_in) k))))
+        (empty_rank (marked_on P marks is_out (a_at P.nodes i)))
 
     pub out_waits : kind_at P.nodes i ≡ LEAF OUT
         → waits P marks i ≡ eqb (rank_in claims.inputs claims.stamp (a_at P.nodes i)) 0
     unfolding waits
     out_waits k =
-        rw k (empty_rank (marked_on P marks is_in (a_at P.nodes i))
-        ∙ ap (λ (n : ℕ). eqb n 0)
-        (sym (p.inputs (a_at P.nodes i) (channel_fits x (out_channel x i m (ap (leaf_test is_out) k))))))
+        rw (k, p.inputs (a_at P.nodes i) (channel_fits x (out_channel x i m (ap (leaf_test is_out) k))))
+        (empty_rank (marked_on P marks is_in (a_at P.nodes i)))
 
 -- no other leaf waits
 pub never_waits : (P : Program) (marks : List ℕ) (i : ℕ) → (kind_at P.nodes i ≡ LEAF IN → ⊥)

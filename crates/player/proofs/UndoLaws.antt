@@ -7,14 +7,12 @@ use Prim.Native.Nat.{ℕ, suc, ◌≤◌, ◌<◌}
 use native.Mathlib.Nat.{le_refl}
 use native.Mathlib.Omega.{arith}
 use lib.Dec.{ltb}
-use lib.ListN.{length, get_or, set, length-set}
+use lib.ListN.{length, get_or, set}
 use lib.Seq.{ext_get_or}
-use borrow.Author.Tests.{eqb-true}
+use Rattle.std.proofs.lemmas.Grind.{elements}
 use Rattle.semantics.specs.Program.{Program, node_count, is_par, kind_at}
-use Rattle.semantics.specs.State.{State, marked, marks_are_bits, leaves_marked, pairs_meet_in_par}
+use Rattle.semantics.specs.State.{State, marked, marks_are_bits}
 use Rattle.semantics.specs.State.{control_formed, well_formed}
-use Rattle.semantics.proofs.Lists.Logic.{and_left}
-use Rattle.semantics.proofs.Lists.ListLaws.{set_reads}
 use Rattle.semantics.proofs.Tree.WellFormedOnTree.{control_formed-in}
 use Rattle.semantics.proofs.Order.InRange.{control_formed_lem}
 use Rattle.player.specs.WellFormed.{ListsFit, added_to_parent, LiveTable, count_from}
@@ -48,21 +46,16 @@ recount_step {P} {marks} {counts₀} {i} {counts} {live} lists so_far =
     let own : count ≡ count_from P.nodes marks i = rw (own_live lists l so_far.table) in
     record {
       within = omega arith;
-      size = length-set counts i count ∙ so_far.size;
+      size = grind (arith, elements, so_far.size);
       table = table_step lists l so_far.table;
-      right = λ j v f.
-          set_reads counts i count 0 (omega (arith, so_far.size))
-          (λ k x. i ≤ k → k < node_count P.nodes → x ≡ count_from P.nodes marks k) (λ w u. own) j
-          (λ d w u. so_far.right j (omega arith) u) v f;
+      right = λ j v f. grind (arith, elements, so_far.size, own, so_far.right j);
     }
 
 -- ---- a well-formed state
 module _ (P : Program) (s : State) (formed : well_formed P s ≡ true) where
   pub formed_bits : marks_are_bits s.marks ≡ true
   unfolding control_formed
-  formed_bits =
-      and_left (marks_are_bits s.marks) (leaves_marked P.nodes s.marks)
-      (and_left _ (pairs_meet_in_par P.nodes s.marks) (and_left _ _ (control_formed_lem P s formed)))
+  formed_bits = grind (arith, control_formed_lem P s formed)
 
   -- its counts are those that its marks give
   pub formed_counts : length s.marks ≡ node_count P.nodes → length s.counts ≡ node_count P.nodes
@@ -70,9 +63,6 @@ module _ (P : Program) (s : State) (formed : well_formed P s ≡ true) where
       → ((i : ℕ) → i < node_count P.nodes → get_or counts i 0 ≡ count_from P.nodes s.marks i)
       → counts ≡ s.counts
   formed_counts marks_fit counts_fit counts fits right =
+      let at = (control_formed-in P.nodes s.marks s.counts marks_fit).1 (control_formed_lem P s formed) in
       ext_get_or 0 counts s.counts (fits ∙ sym counts_fit)
-      (λ i l.
-      let inside : i < node_count P.nodes = omega arith in
-      right i inside
-      ∙ sym (eqb-true _ _ (((control_formed-in P.nodes s.marks s.counts marks_fit).1 (control_formed_lem P s formed)
-      ).each i (omega arith) inside).counted))
+      (λ i l. let node = at.each i (omega arith) (omega arith) in grind (arith, right i, node.counted))

@@ -23,7 +23,6 @@ pub fn cross(marks: &mut [u8], i: u16)
 // where all are crossed out: no Result, for its caller goes on with the number in both cases. It goes on where `pair_entries`
 // stopped. One function for both would be told by a closure what else is asked of an entry, and its contract would have to say
 // of any closure what the closure of `pair_entries` did to the claims: no plainer.
-#[tactic(auto, using(crate::proofs::EntryLaws::crossing_out))]
 pub fn cross_out(marks: &mut [u8], entries: &[u16]) -> usize
     ensures value { result ≡ crossable marks.old entries.now }
     ensures marks_after { marks.new ≡ set_all 0 marks.old (take result entries.now) }
