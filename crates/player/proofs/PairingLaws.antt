@@ -95,10 +95,6 @@ module _ {P : Program} {entries : List ℕ} (x : CycleOf P entries) where
   on_single : (f : Leaf → Bool) (c : ℕ) → single f c ≡ leb (length (on_channel f c)) 1
   on_single f c = single_entries x (λ i. has_kind P.nodes f i && eqb (a_at P.nodes i) c)
 
-  on_same : (f : Leaf → Bool) (c : ℕ) → length (on_channel f c) ≤ 1
-      → on_channel f c ≡ marked_on P marks f c
-  on_same f c = single_entry marks entries x.entries_active (λ i. has_kind P.nodes f i && eqb (a_at P.nodes i) c)
-
   -- ---- question 8
 
   -- each entry has claimed its channel
@@ -123,7 +119,7 @@ module _ {P : Program} {entries : List ℕ} (x : CycleOf P entries) where
     where
       ranked : (f : Leaf → Bool) (s : Slots) → Claims (has_kind P.nodes f) (a_at P.nodes) entries s claims.stamp
           → Ranked P marks f s claims.stamp
-      ranked f s h c l = (h c).rank l ∙ ap rank_of (on_same f c (h c).single)
+      ranked f s h c l = (h c).rank l ∙ ap rank_of (single_entry marks entries x.entries_active _ (h c).single)
 
   -- no two entries want one channel
   each_once : (c : ℕ) → channels_free P marks ≡ true → c < P.channels

@@ -1,8 +1,6 @@
 -- `next_value` gives a number, a variable's value, or the op at the values of two expressions before it.
-use Rattle.std.proofs.Common.{sym, ap, ◌∙◌, arith}
-use Rattle.semantics.specs.Program.{op_of}
+use Rattle.std.proofs.Common.{arith}
 use Rattle.semantics.specs.Expressions.{value_of as rule_value}
-use Rattle.program.specs.Ops.{read_op}
 use Rattle.player.proofs.AcceptedLaws.{op_known}
 use Rattle.player.proofs.MemoLaws.{value_before}
 use Rattle.player.proofs.OperandLaws.{expression_laws}
@@ -10,10 +8,8 @@ use Rattle.player.proofs.passes.next_value.Goals as goal
 
 pub returns-in-Ok-Binary : goal.returns-in-Ok-Binary
 unfolding rule_value
-returns-in-Ok-Binary c = grind (arith, expression_laws, value_before)
+returns-in-Ok-Binary c = grind (arith, value_before _ _ _ _ c.requires.worked, expression_laws)
 
 -- a word that is no op
 pub returns-in-Err : goal.returns-in-Err
-returns-in-Err c =
-    absurd (op_known _ c.args.program.now.accepted c.args.i c.requires.i_bound.0
-    (sym (ap read_op (sym c.in-Err.is) ∙ c.try_from.ensures ∙ ap op_of c.expr-op.ensures.op)))
+returns-in-Err c = grind (arith, op_known _ c.args.program.now.accepted c.args.i c.requires.i_bound.0)
