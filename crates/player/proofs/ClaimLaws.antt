@@ -1,5 +1,5 @@
--- The slots of what is claimed alike after some entries: each has the rank of the one entry that wants it. An entry that wants a
--- free slot keeps it so, and one that wants a claimed slot shows that two entries want the same.
+-- The slots of what is claimed alike after some entries: each has the rank of the one entry that wants it. An entry that
+-- wants a free slot keeps it so, and one that wants a claimed slot shows that two entries want the same.
 use mathlib.Core.Path.{◌≡◌, refl, sym, ap, ◌∙◌, subst}
 use mathlib.Core.Bool.{Bool, true, false, cond}
 use mathlib.Core.List.{List, [], ◌∷◌, ◌++◌, append-nil}

@@ -36,7 +36,8 @@ set_all-set word marks (x ∷ es) e =
 pub set_all-more : (word : ℕ) (marks es : List ℕ) (a b : ℕ)
     → set_all word (set_all word marks (take a es)) (take b (drop a es)) ≡ set_all word marks (take (a + b) es)
 set_all-more word marks es a b =
-    sym (ap (set_all word marks) (take-add a b es) ∙ fold-append (λ m e. set m e word) marks (take a es) (take b (drop a es)))
+    sym (ap (set_all word marks) (take-add a b es)
+    ∙ fold-append (λ m e. set m e word) marks (take a es) (take b (drop a es)))
 
 -- ---- how many entries can be crossed out
 

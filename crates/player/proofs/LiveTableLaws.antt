@@ -63,7 +63,8 @@ module _ {P : Program} {marks counts : List ℕ} {i : ℕ} {live : List ℕ} (li
       }
 
   -- the parent of node i has one more, where node i holds a mark
-  pub table_step : LiveTable P.nodes marks i (added_to_parent P.nodes i (marked marks i || ltb 0 (get_or live i 0)) live)
+  pub table_step : LiveTable P.nodes marks i
+      (added_to_parent P.nodes i (marked marks i || ltb 0 (get_or live i 0)) live)
   table_step =
       let holds = holds_mark-own P.nodes marks lists.accepted.nodes_ok lists.marks_fit i inside in
       record {

@@ -1,4 +1,5 @@
--- Widths and masks in code: the mask of a width, what a variable keeps by its mask, and the masks that a run starts with.
+-- Widths and masks in code: the mask of a width, what a variable keeps by its mask, and the masks that a run starts
+-- with.
 use Rattle.std.proofs.Common.{◌≡◌, ℕ, ◌-◌, ◌/◌, ◌^◌, ◌<◌, ◌≤◌, zero, suc, Bool, eqb, leb, ltb, List, length, get_or, refl, sym, ap, ◌∙◌, arith}
 use lib.Bits.{and_mask}
 use lib.Pow.{le_ones, lt_of_le_ones}
@@ -39,13 +40,15 @@ masked widths work v value masks l = rw (masks v l) (and_mask value (width_at wi
 within_mask : (w x : ℕ) → leb x (2 ^ w - 1) ≡ ltb x (2 ^ w)
 within_mask w x = grind (arith, lt_of_le_ones, le_ones)
 
-all-from : (f g : ℕ → Bool) → ((v : ℕ) → f v ≡ g v) → (n a : ℕ) → list_all f (range_with_len a n) ≡ every g (up_from n a)
+all-from : (f g : ℕ → Bool) → ((v : ℕ) → f v ≡ g v) → (n a : ℕ)
+    → list_all f (range_with_len a n) ≡ every g (up_from n a)
 unfolding every up_from
 all-from f g same zero a = refl
 all-from f g same (suc n) a = grind (arith, same, all-from f g same n (suc a))
 
 pub values_within : (widths values : List ℕ) (n : ℕ) → length values ≡ n
-    → list_all (λ v. leb (get_or values v 0) (2 ^ width_at widths v - 1)) (range_with_len 0 n) ≡ values_in_range widths values
+    → list_all (λ v. leb (get_or values v 0) (2 ^ width_at widths v - 1)) (range_with_len 0 n)
+    ≡ values_in_range widths values
 unfolding values_in_range
 values_within widths values n e =
     all-from _ (λ v. ltb (get_or values v 0) (2 ^ width_at widths v))

@@ -1,5 +1,5 @@
--- What is known of the values of expressions: in equal values of the variables they are equal, and what a note, a pass or a new
--- moment leaves known.
+-- What is known of the values of expressions: in equal values of the variables they are equal, and what a note, a pass or
+-- a new moment leaves known.
 use Rattle.std.proofs.Common.{◌≡◌, ℕ, zero, suc, ◌+◌, ◌<◌, ◌≤◌, Bool, not, cond, eqb, List, length, get_or, set, refl, sym, ap, ◌∙◌, arith}
 use Rattle.std.proofs.lemmas.Grind.{elements}
 use Rattle.semantics.specs.Program.{Program, Op, expr_count}
@@ -117,6 +117,7 @@ pub known_rewritten : (exprs : List ℕ) (memo : Memo) (variables : List ℕ) �
     → Known exprs (record memo { variables = variables })
 known_rewritten exprs memo variables size alike k = record {
   size = record { variables = size; formulas = k.size.formulas; moments = k.size.moments };
-  right = λ e l h. k.right e l h ∙ ap (λ (table : List ℕ). get_or table e 0) (sym (alike_values exprs variables memo.variables alike));
+  right = λ e l h. k.right e l h
+      ∙ ap (λ (table : List ℕ). get_or table e 0) (sym (alike_values exprs variables memo.variables alike));
   past = k.past;
 }

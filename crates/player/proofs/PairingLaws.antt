@@ -76,7 +76,8 @@ paired_more {P} {entries} {k} {before} {claims} {claims'} ok inside h l p = reco
   ins = rw p.stamp
       (claims_more _ _ _ entries k l _ _ h.ins (node_in_fits ok _ inside) (grind (arith, p.was_free)) (p.inputs refl));
   outs = rw p.stamp
-      (claims_more _ _ _ entries k l _ _ h.outs (node_out_fits ok _ inside) (grind (arith, p.was_free)) (p.outputs refl));
+      (claims_more _ _ _ entries k l _ _ h.outs (node_out_fits ok _ inside) (grind (arith, p.was_free))
+      (p.outputs refl));
   only = more_channels h.only p;
 }
 
