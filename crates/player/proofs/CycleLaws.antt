@@ -3,31 +3,31 @@
 use mathlib.Core.Path.{◌≡◌, refl, sym, ap, ◌∙◌, subst}
 use mathlib.Core.Bool.{Bool, true, false, cond, ◌&&◌}
 use mathlib.Core.List.{List, [], ◌∷◌, foldl}
-use Prim.Native.Nat.{ℕ, suc, ◌+◌, ◌*◌, ◌≤◌, ◌<◌}
-use native.Mathlib.Nat.{le_refl, lt_of_lt_of_le}
+use Prim.Native.Nat.{ℕ, ◌+◌, ◌*◌, ◌≤◌, ◌<◌}
+use native.Mathlib.Nat.{lt_of_lt_of_le}
 use native.Mathlib.Numerals.{add-one}
 use native.Mathlib.Omega.{arith}
-use lib.Dec.{eqb, leb}
+use lib.Dec.{leb}
 use lib.ListN.{length, get_or, set, drop, replicate, length-set, length-replicate}
 use lib.Seq.{drop-cons}
-use Rattle.semantics.specs.Numbers.{below, up_from, filter}
+use Rattle.semantics.specs.Numbers.{below, filter}
 use Rattle.semantics.specs.Program.{Program, Kind, Leaf, expr_count, node_count, kind_at, a_at, b_at, leaf_test}
 use Rattle.semantics.specs.Program.Kind.{SEQ, PAR, IF, WHL, LEAF, UNKNOWN}
 use Rattle.semantics.specs.Program.Leaf.{ASG, IN, OUT, DLY}
 use Rattle.semantics.specs.Check.{references_ok}
-use Rattle.semantics.specs.State.{marked, mark_count, active}
+use Rattle.semantics.specs.State.{marked, active}
 use Rattle.semantics.specs.Completion.{is_asg, is_in, is_out}
 use Rattle.semantics.specs.Facts.{Accepted}
 use Rattle.semantics.proofs.Lists.Logic.{and_left, and_right}
 use Rattle.semantics.proofs.Lists.NumberLaws.{filter-filter}
 use Rattle.semantics.proofs.Run.EntriesLaws.{active_means}
 use Rattle.semantics.proofs.Lists.ActiveLaws.{marked_below}
-use Rattle.semantics.proofs.Run.CrossOut.{mark_count-cons}
 use Rattle.semantics.proofs.Run.EntryCounts.{entry_count}
 use Rattle.semantics.proofs.Lists.LeafKinds.{asg_names, in_names, out_names}
 use Rattle.player.specs.declared.claims.Claims.{Claims}
 use Rattle.player.specs.Entries.{set_all}
 use Rattle.player.specs.Channels.{marks_of, CycleOf, Paired, PairedEntry, has_kind}
+use Rattle.player.proofs.MarkLaws.{mark_count-most}
 
 -- ---- what passes a test
 
@@ -50,15 +50,6 @@ first_active marks f y ys e =
     (and_left _ _ h, and_right (marked marks y) _ h)
 
 -- ---- the entries
-
-mark_few : (marks : List ℕ) → mark_count marks ≤ length marks
-unfolding filter up_from
-mark_few [] = le_refl 0
-mark_few (m ∷ ms) = rw (mark_count-cons m ms) (pick (eqb m 1) (mark_few ms))
-  where
-    pick : (b : Bool) {n l : ℕ} → n ≤ l → cond b (suc n) n ≤ suc l
-    pick true l = omega arith
-    pick false l = omega arith
 
 -- a fold over the entries from k on
 pub fold_next : {A : Type 0} (step : A → ℕ → A) (a : A) (entries : List ℕ) (k : ℕ) → k < length entries
@@ -147,7 +138,7 @@ module _ {P : Program} {entries : List ℕ} (x : CycleOf P entries) where
   pub entries_few : length entries ≤ 1024
   entries_few =
       let many = ((active_means marks entries).0 x.entries_active).as_many in
-      let few = mark_few marks in
+      let few = mark_count-most marks in
       let fit = marks_of-length P entries in
       let nodes-fit = x.accepted.sizes.nodes_fit in
       omega arith

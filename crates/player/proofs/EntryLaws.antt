@@ -11,6 +11,7 @@ use lib.Dec.{eqb, leb}
 use lib.ListN.{length, get_or, set, take, drop, replicate, drop_of_length-le}
 use lib.Seq.{take-add, take-length, drop-cons, set-set, set-get_or}
 use Rattle.std.proofs.lemmas.Grind.{fold-append, elements}
+use Rattle.std.proofs.lemmas.List.{take_rest}
 use Rattle.std.proofs.lemmas.List.Sums.{fold_more}
 use borrow.Author.Tests.{eq-eqb}
 use Rattle.semantics.specs.Numbers.{every}
@@ -174,3 +175,6 @@ module _ (marks entries : List ℕ) (active : are_active marks entries ≡ true)
     -- the active statements alone, marked
     pub all-marked : set_all 1 (replicate (length marks) 0) entries ≡ marks
     all-marked = ap (λ (m : List ℕ). set_all 1 m entries) (sym all-crossed) ∙ all-marked_again
+
+-- what `refused_by` needs: it crosses the other entries out as far as it can, and marks all again that are crossed out
+pub ruleset refusing = (take_rest, set_all-more, crossable_most, part_length, part_inside, crossed_back)

@@ -32,4 +32,3 @@ pub mod StoredLaws
 pub mod SideLaws
 pub mod RightSideLaws
 pub mod AcceptedNodeLaws
-pub mod RefusedLaws

@@ -17,7 +17,7 @@ use program::{Accepted, Refusal};
 
 // Which question refuses, where the pass of questions 7 and 8 stopped after `passed` entries. Question 7 comes first: so the
 // other entries are crossed out too, and 8 refuses only where they all can be. The marks are as they were again.
-#[tactic(auto, using(crate::proofs::RefusedLaws::refusing))]
+#[tactic(auto, using(crate::proofs::EntryLaws::refusing))]
 fn refused_by(marks: &mut [u8], entries: &[u16], passed: usize) -> Refusal
     requires { CrossedOut entries.now (uncrossed entries.now passed marks.old) passed marks.old }
     ensures marks_after { marks.new ≡ uncrossed entries.now passed marks.old }
