@@ -21,7 +21,7 @@ fn word_of_sizes(sizes: FileSizes) -> u64
         + 4294967296 * u64::from(word_of(sizes.vars, sizes.chans))
 }
 
-// 0 for each where the bytes are no file.
+// 0 for each where the bytes are no file, as C has it.
 pub fn paper_sizes(file: &[u8]) -> u64
     ensures { SizesAnswer file.now (nodes_in result) (exprs_in result) (vars_in result) (chans_in result) }
 {

@@ -1,5 +1,7 @@
 // What a file holds: its program is checked in lists of the reader's own, and only then are lent lists filled.
 // These stay parameters by themselves: of a struct that holds a `&mut` each function would have to say that it is the same list.
+// `AreSizes` is said of a file and its sizes: a struct of both would be opened again in each function, and `ask_room` and
+// `trailer_of` take sizes alone: no plainer.
 ghost use Rattle.std.specs.Prelude.{◌≡◌, List, ℕ, IfOk};
 ghost use Rattle.semantics.specs.File.{parts_in, program_in};
 ghost use Rattle.semantics.specs.FileCalls.{all_fit, all_filled};
@@ -59,7 +61,7 @@ pub fn ask_room(
         & (lengths.nodes <= nodes.len())
         & (lengths.vars <= values.len())
         & (lengths.vars <= widths.len());
-    if fit { Ok(()) } else { Err(Refusal::Room) }
+    fit.then_some(()).ok_or(Refusal::Room)
 }
 
 // Fills four lists with the parts of a file, which begin where `check_in` takes them. One function for both would also ask for

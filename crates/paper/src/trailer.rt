@@ -37,7 +37,9 @@ impl From<FileSizes> for Distances {
     }
 }
 
-// Word k of a trailer. The words are read by number, as the rules of the format do.
+// Word k of a trailer. The words are read by number, as the rules of the format do. That there is a trailer is asked in three
+// contracts: the rules' `sizes_in` is said of the bytes, so that of an array of its words it would have to be said which file
+// they are of: no plainer.
 fn trailer_word(file: &[u8], k: usize) -> u16
     requires { (16 ≤ length file.now) × (k < 8) }
     ensures { result ≡ get_or (trailer_in file.now) k 0 }
@@ -82,5 +84,5 @@ pub fn sizes_of_file(file: &[u8]) -> Option<FileSizes>
     let ok = (file.len() % 2 == 0)
         & distances_ok(file, sizes)
         & (file.len() == 2 * Distances::from(sizes).exprs + 16);
-    if ok { Some(sizes) } else { None }
+    ok.then_some(sizes)
 }

@@ -50,7 +50,8 @@ pub enum Error {
     Refused(Refusal),
 }
 
-// There is a From for each type of error: one for several would need a trait that these types of std have.
+// There is a From for each type of error: one for several would need a trait that these types of std have, and the derive of
+// thiserror asks for Display.
 impl From<AllocError> for Fault {
     fn from(_error: AllocError) -> Fault {
         Fault::OutOfMemory

@@ -46,14 +46,16 @@ impl Sign {
     }
 }
 
-fn sign_of(op: Binary) -> Sign {
-    match op {
-        Binary::Add => Sign::new(" + ", 2, 2, 3),
-        Binary::Sub => Sign::new(" - ", 2, 2, 3),
-        Binary::Mul => Sign::new(" * ", 3, 3, 4),
-        Binary::And => Sign::new(" & ", 1, 4, 4),
-        Binary::Equal => Sign::new(" = ", 1, 2, 2),
-        Binary::Below => Sign::new(" < ", 1, 2, 2),
+impl From<Binary> for Sign {
+    fn from(op: Binary) -> Sign {
+        match op {
+            Binary::Add => Sign::new(" + ", 2, 2, 3),
+            Binary::Sub => Sign::new(" - ", 2, 2, 3),
+            Binary::Mul => Sign::new(" * ", 3, 3, 4),
+            Binary::And => Sign::new(" & ", 1, 4, 4),
+            Binary::Equal => Sign::new(" = ", 1, 2, 2),
+            Binary::Below => Sign::new(" < ", 1, 2, 2),
+        }
     }
 }
 
@@ -77,10 +79,7 @@ impl<'a> Expression<'a> {
 
     // Whether it leaves some of the room.
     fn fits(self, room: usize) -> bool {
-        match length_of(self) {
-            Ok(length) => length < room,
-            Err(fmt::Error) => false,
-        }
+        length_of(self).is_ok_and(|length| length < room)
     }
 
     // Its words, if the program has such an expression.
@@ -115,7 +114,7 @@ impl<'a> Expression<'a> {
         ensures { IfSome result (λ step.
             (step.left.depth < self.entry.depth) × (step.right.depth < self.entry.depth)) }
     {
-        let sign = sign_of(self.binary()?);
+        let sign = Sign::from(self.binary()?);
         if self.depth == 0 {
             return None;
         }

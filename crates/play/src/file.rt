@@ -15,10 +15,7 @@ const BYTES: Limit = Limit {
 };
 
 fn path_of(name: &[u8]) -> io::Result<&str> {
-    match from_utf8(name) {
-        Ok(path) => Ok(path),
-        Err(_) => Err(Error::new(ErrorKind::InvalidFilename, "the name is not UTF-8")),
-    }
+    from_utf8(name).map_err(|_| Error::new(ErrorKind::InvalidFilename, "the name is not UTF-8"))
 }
 
 fn open<R: Files>(files: &R, name: &[u8]) -> io::Result<R::File> {

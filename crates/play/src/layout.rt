@@ -58,7 +58,8 @@ pub struct Paper {
     pub book: Vec<u16>,
 }
 
-// The words of a paper by what they are.
+// The words of a paper by what they are: slices, until the length of the book is known. They stand beside each other as the
+// calls take them.
 #[derive(Clone, Copy)]
 struct Parts<'a> {
     exprs: &'a [u16],

@@ -9,7 +9,8 @@ use std::rt::Stdout;
 // The widest line, in bytes.
 pub const WIDTH: usize = 100;
 
-// The bytes of a line. It is no String: a text of the user's need not be UTF-8, and a line may be cut within a character.
+// The bytes of a line. It is no String: a text of the user's need not be UTF-8, and a line may be cut within a character. In
+// place of the bytes and an outcome, a Result of the bytes would be matched by each `put`: no plainer.
 #[derive(Drop)]
 pub struct Line {
     text: Vec<u8>,

@@ -20,18 +20,16 @@ pub fn begin(paper: &Paper, state: &mut State) -> Result<(), Refusal> {
 
 // Runs a cycle. How many were worked is left out: it is 1, or 0 where it is refused.
 pub fn run(paper: &Paper, state: &mut State, entries: &[u16]) -> Result<(), Refusal> {
-    let outcome = player::run(
+    player::run(
         paper.program(),
         &mut state.values,
         &mut state.marks,
         &mut state.counts,
         entries,
         1,
-    );
-    match outcome {
-        Ok(_) => Ok(()),
-        Err(stopped) => Err(stopped.refusal),
-    }
+    )
+    .map(|_| ())
+    .map_err(|stopped| stopped.refusal)
 }
 
 // The paper of a file of words. There is no book.

@@ -24,6 +24,7 @@ fn own_order(paper: &Paper) -> Result<Order, AllocError> {
     }
 }
 
+// Order and cycles go down beside each other to `Run`, which has both: a struct of the two would be taken apart there.
 fn print_sizes(out: Output, sizes: FileSizes, cycles: u16, order: &Order) -> fmt::Result {
     let counts = [
         Counted::new(sizes.nodes, "node"),

@@ -38,9 +38,7 @@ fn in_text(alloc: Global, name: &[u8], mut heading: Line, text: &[u8]) -> Result
 // ---- the papers that come with the program
 
 pub fn numbered(alloc: Global, paper: u16) -> Result<Paper, Error> {
-    let Some(text) = papers::text_of(paper) else {
-        return Err(Error::NoPaper(paper));
-    };
+    let text = papers::text_of(paper).ok_or(Error::NoPaper(paper))?;
     let mut heading = Line::new(alloc);
     heading.put(format_args!("Paper {paper}"));
     in_text(alloc, b"paper", heading, text.as_bytes())
@@ -85,10 +83,10 @@ fn in_contents(alloc: Global, name: &[u8], contents: &[u8]) -> Result<Paper, Err
 }
 
 pub fn in_file(files: &impl Files, alloc: Global, name: &[u8]) -> Result<Paper, Error> {
-    match file::read(files, alloc, name) {
-        Ok(contents) => in_contents(alloc, name, &contents),
-        Err(fault) => Err(Error::in_file(alloc, name, fault)),
-    }
+    let contents = file::read(files, alloc, name).map_err(|fault| Error::in_file(
+        alloc, name, fault,
+    ))?;
+    in_contents(alloc, name, &contents)
 }
 
 // That so many bytes are written to a file.

@@ -161,7 +161,8 @@ impl Table {
         Ok(())
     }
 
-    // A state, with the active statements in an order. The label is that of a cycle, or of what is after the last.
+    // A state, with the active statements in an order: a state has none, and the order is the cycle's. The label is that of a
+    // cycle, or of what is after the last.
     pub fn print_row(
         self,
         label: impl Display + Drop,

@@ -22,7 +22,7 @@ impl Display for Counted {
     }
 }
 
-// The first items of a list, with a text between them.
+// The first items of a list, with a text between them. `format` of itertools takes memory for the items.
 #[derive(Drop)]
 pub struct Joined<'a, T> {
     items: &'a [T],

@@ -18,7 +18,8 @@ fn channel_of(program: &Accepted, i: u16) -> ChanId
     ChanId(records::node(program, i).a)
 }
 
-// Node i claims its channel, for input if it is an IN and for output if it is an OUT: whether it was free.
+// Node i claims its channel, for input if it is an IN and for output if it is an OUT: whether it was free, a bool as in `claim`.
+// `PairedEntry`, here and in stores.rt and visits.rt, is said of a program, claims and a number, of which none has the others.
 #[tactic(auto, using(crate::proofs::EntryPairingLaws::nothing_paired))]
 fn pair_one(program: &Accepted, i: u16, claims: &mut Claims) -> bool
     requires { i < node_count (accepted_in program.now).nodes }

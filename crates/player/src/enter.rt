@@ -1,6 +1,6 @@
-// Entering a node. `Walking` is said of a program, two lent lists and a `Work`, of which none has the others: so no field
-// says it. The lists stay parameters beside `work`: of a struct that holds a `&mut` each function would have to say that it
-// is still the same list.
+// Entering a node. `Walking` is said of a program, two lent lists and a `Work`, of which none has the others (work.rt says why):
+// so no field says it, nor `Branches`, of a number and a program. The lists stay parameters beside `work`: of a struct that
+// holds a `&mut` each function would have to say that it is still the same list.
 ghost use Rattle.std.specs.Prelude.{◌≡◌, ◌<◌};
 ghost use Rattle.semantics.specs.Program.{node_count, kind_at, a_at};
 ghost use Rattle.semantics.specs.Program.Kind.{SEQ, PAR};

@@ -1,5 +1,6 @@
 // The values of single expressions, worked when they are asked for. What takes more than a step on numbers and variables is
-// worked once and noted while no value changes.
+// worked once and noted while no value changes. `Known` is said of a program and a memo, and `HasOperands` of a number and a
+// program: of structs that held both each function would have to say that it is still the same program: no plainer.
 ghost use Rattle.std.specs.Prelude.{◌<◌};
 ghost use Rattle.semantics.specs.Program.{expr_count};
 ghost use Rattle.program.specs.Accepted.{accepted_in};

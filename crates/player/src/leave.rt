@@ -96,7 +96,7 @@ fn turn(
     }
 }
 
-// Leave node i.
+// Leave node i. By `successors` the step would be a closure that writes the lent lists: no plainer.
 pub fn leave(program: &Accepted, work: &mut Work, marks: &mut [u8], counts: &mut [u16], i: u16)
     requires walking { Walking (accepted_in program.now) marks.old counts.old work.old }
     requires i_bound { (i < node_count (accepted_in program.now).nodes) × Climbing (accepted_in program.now).nodes work.old }

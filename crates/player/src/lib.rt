@@ -38,6 +38,8 @@ pub use program::{Program, Refusal, check};
 use root::enter_root;
 use well_formed::{ask_state, ask_values};
 
+// The lists stand side by side, as C lends them.
+
 // Begins a program with the values as given: asks what check asks, question 5, question 6 of the values alone, and 10.
 // Where none is answered no, it writes marks and counts whole from entering node 0. What stood in them is not read.
 pub fn begin(

@@ -24,6 +24,7 @@ pub fn outcome(counts: &[u16], h: u16) -> Outcome
 
 // The number of children of node h. By `successors` the step `child = node(child).end` would be a closure that is asked for what
 // follows `end` too, where there may be no node: it would have a test of its own besides, and the law of its chain: no plainer.
+// An `Iterator` of our own would need a type, its laws and its chain, for three loops of four lines.
 #[tactic(auto, using(crate::proofs::AcceptedNodeLaws::counting_children))]
 pub fn count_children(program: &Accepted, h: u16) -> u16
     requires { h < node_count (accepted_in program.now).nodes }

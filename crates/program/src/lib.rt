@@ -45,7 +45,8 @@ pub struct Program<'a> {
     pub chans: u16,
 }
 
-// The number of a variable. It is a type of its own, as a channel's is, so that neither is taken for the other.
+// The number of a variable. It is a type of its own, as a channel's is, so that neither is taken for the other. It has a
+// default, since what lists variables may ask for a blank one.
 #[derive(Clone, Copy, Debug, Default, PartialEq, Eq)]
 pub struct VarId(pub u16);
 

@@ -39,7 +39,7 @@ fn children_ok(kind: Kind, n: u16) -> bool
     match kind {
         Kind::Seq => 1 <= n,
         Kind::Par => 2 <= n,
-        Kind::If => (1 <= n) & (n <= 2),
+        Kind::If => (1..=2).contains(&n),
         Kind::Whl => n == 1,
         Kind::Leaf(_) => n == 0,
     }

@@ -19,7 +19,7 @@ pub enum Op {
     Binary(Binary),
 }
 
-// A word is no op. A type of its own says so in a signature, where `()` would say nothing.
+// A word is no op. A type of its own says so in a signature, and of which list the word is, where `()` would say nothing.
 #[derive(Clone, Copy, Debug, PartialEq, Eq)]
 pub struct UnknownOp;
 

@@ -9,7 +9,8 @@ use super::tree::Place;
 
 // A node that has ended at i is not its parent, and neither is any node between that node and its own parent, for these
 // have ended before: so the search goes from parent to parent. No later search comes to a node that was passed over, so
-// that all searches together take linear time.
+// that all searches together take linear time. By `successors` and `find` the step and the test would be closures that each
+// ask for a number below i, and there would be the law of their chain: no plainer.
 #[tactic(auto, using(crate::proofs::ClimbLaws::climbing), unfolding(semantics::specs::Parents::parent_below))]
 pub fn parent_of(program: &Program, places: &[Place; NODES_MAX], i: u16) -> Option<u16>
     requires { Places program.now.nodes.now i places.now }

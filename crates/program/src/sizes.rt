@@ -21,6 +21,8 @@ fn sizes_ok(program: &Program) -> bool
         & (program.chans <= CHANS_MAX)
 }
 
+// `Sized` stands in three contracts more. A type for it would be made here alone, and each question would take the program
+// out of it again: no plainer.
 #[tactic(auto, using(semantics::proofs::Lists::FaultLaws::no_item, crate::proofs::AnswerLaws::sized_if_ok))]
 pub fn ask_sizes(program: &Program) -> Result<(), Refusal>
     ensures asked { Asked (program_in program.now) 1 (sizes_ok (program_in program.now)) result }

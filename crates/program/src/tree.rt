@@ -30,7 +30,8 @@ impl Place {
 }
 
 // Places the nodes below count, in the caller's table: one that is returned would be copied, and be on the stack twice. What
-// the table holds before is not read.
+// the table holds before is not read. A vector of places would be written by the same indices, since a parent's place is
+// written again, and its length would be the count: no plainer.
 #[tactic(auto, using(crate::proofs::PlaceLaws::parent_fits, crate::proofs::PlaceLaws::parent_low))]
 fn place_nodes(program: &Program, places: &mut [Place; NODES_MAX], count: u16)
     requires { count ≤ 1024 }

@@ -5,6 +5,8 @@ ghost use Rattle.program.specs.Word.{number_in, item_in};
 
 use super::Refusal;
 
+// It is no `From`, here and in the words of run and of sizes: which bits hold what is a matter of C's, and two words alone do
+// not tell it.
 pub fn word_of(number: u16, item: u16) -> u32
     ensures number { number_in result ≡ number }
     ensures item { item_in result ≡ item }
