@@ -9,6 +9,9 @@ use lib.Dec.{leb, ltb}
 use lib.ListN.{length, take, drop, replicate, length-drop, length-replicate}
 use lib.Seq.{paste, take-paste, drop-drop}
 use borrow.Author.Tests.{ltb-false, le-ltb}
+use Rattle.std.specs.Prelude.{Option, Some, None, MatchOption}
+use Rattle.std.specs.Bool.{then_some}
+use Rattle.std.specs.Option.{ok_or}
 use Rattle.semantics.specs.Bytes.{words_of}
 use Rattle.semantics.specs.Program.{Program}
 use Rattle.semantics.specs.Check.{sizes_ok, fault_item}
@@ -20,7 +23,6 @@ use Rattle.semantics.proofs.Lists.QuestionLaws.{sized_limits}
 use Rattle.semantics.proofs.Files.BytesLaws.{length-words}
 use Rattle.semantics.proofs.Files.FileLaws.{parts_in_fit}
 use Rattle.semantics.proofs.Files.FileCallLaws.{sizes_yes, sizes_no}
-use Rattle.std.specs.Prelude.{Option, Some, None, MatchOption}
 use Rattle.program.specs.declared.refusal.Refusal.TheVariants.{Room}
 use Rattle.program.specs.Answer.{program_of, CheckAnswer, answer_to}
 use Rattle.program.proofs.CheckLaws.{first_1}
@@ -53,17 +55,20 @@ refused_1 P fails =
 module _ (file : List ℕ) (s : FileSizes) (are : AreSizes file s) (e n v : ℕ) (is_e : e ≡ 3 * s.exprs)
     (is_n : n ≡ 5 * s.nodes) (is_v : v ≡ s.vars) where
   -- question 13 asks of the lengths what the rules ask of the parts
-  pub room_answer : (b : Parts) {fit : Bool}
-      → leb e (length b.exprs) && leb n (length b.nodes) && leb v (length b.values) && leb v (length b.widths) ≡ fit
-      → answer_to fit Room ≡ answer_to (all_fit (parts_in file) b) Room
-  room_answer b h =
+  room_asked : (b : Parts)
+      → leb e (length b.exprs) && leb n (length b.nodes) && leb v (length b.values) && leb v (length b.widths)
+      ≡ all_fit (parts_in file) b
+  room_asked b =
       let fit = parts_in_fit file are.is_file in
-      let same : (leb e (length b.exprs) && leb n (length b.nodes) && leb v (length b.values) && leb v (length b.widths))
-      ≡ all_fit (parts_in file) b =
       rw (fit.exprs, fit.nodes, fit.values, fit.widths, is_e, is_n, is_v)
       (ap (λ (x : Sizes). leb (3 * x.exprs) (length b.exprs) && leb (5 * x.nodes) (length b.nodes)
-      && leb x.variables (length b.values) && leb x.variables (length b.widths)) are.right) in
-      ap (λ (x : Bool). answer_to x Room) (sym h ∙ same)
+      && leb x.variables (length b.values) && leb x.variables (length b.widths)) are.right)
+
+  pub room_answer : (b : Parts) (fit : Bool)
+      → fit ≡ (leb e (length b.exprs) && leb n (length b.nodes) && leb v (length b.values) && leb v (length b.widths))
+      → ok_or (then_some fit tt) Room ≡ answer_to (all_fit (parts_in file) b) Room
+  room_answer b true h = ap (λ (x : Bool). answer_to x Room) (h ∙ room_asked b)
+  room_answer b false h = ap (λ (x : Bool). answer_to x Room) (h ∙ room_asked b)
 
   -- a part that is longer than any accepted program's
   pub too_long : ltb 3072 e || ltb 5120 n || ltb 256 s.vars ≡ true → CheckAnswer (program_in file) 1 0

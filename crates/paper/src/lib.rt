@@ -47,7 +47,9 @@ pub fn read(
         (number_of result) (item_of result)
         (parts_from exprs.new nodes.new values.new widths.new) }
 {
-    let sizes = sizes_of_file(file).ok_or(Refusal::File)?;
+    let Some(sizes) = sizes_of_file(file) else {
+        return Err(Refusal::File);
+    };
     check_in(file, sizes)?;
     ask_room(sizes, exprs, nodes, values, widths)?;
     fill_all(file, sizes, exprs, nodes, values, widths);
