@@ -1,6 +1,6 @@
 -- What an accepted program gives to the code that walks it: the facts of questions 1 to 4 and 11, conditions that are there,
 -- and widths of 1 to 16 bits.
-use Rattle.std.proofs.Common.{◌≡◌, ℕ, ◌*◌, ◌<◌, get_or, true, true≢false, Ok, Err, sym, ap, ◌∙◌, inl, inr, subst}
+use Rattle.std.proofs.Common.{◌≡◌, ℕ, ◌*◌, ◌<◌, ◌≤◌, get_or, true, true≢false, Ok, Err, sym, ap, ◌∙◌, inl, inr, subst}
 use Rattle.std.specs.Prelude.{Result}
 use Rattle.std.specs.Result.{result_unwrap_or}
 use borrow.Author.Tests.{ltb-true}
@@ -35,6 +35,14 @@ module _ (P : Program) (a : Accepted P) (i : ℕ) (l : i < node_count P.nodes) w
   unfolding reference_words_ok
   condition_there (inl e) = ltb-true (a_at P.nodes i) (expr_count P.exprs) (condition_at IF e)
   condition_there (inr e) = ltb-true (a_at P.nodes i) (expr_count P.exprs) (condition_at WHL e)
+
+-- there are at most 256 variables
+pub variables_fit : (program : AcceptedCode) → program.lists.vars ≤ 256
+variables_fit program = (is_accepted program).sizes.variables_fit
+
+-- found by the number of the nodes where a goal has it
+pub sizes_fit : (program : AcceptedCode) → (node_count program.lists.nodes.now ≤ 1024) × (program.lists.vars ≤ 256)
+sizes_fit program = ((is_accepted program).sizes.nodes_fit, variables_fit program)
 
 -- each first word of a record stands for a kind or an op
 module _ (P : Program) (ok : check_number P ≡ 0) where

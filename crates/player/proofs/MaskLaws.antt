@@ -6,28 +6,32 @@ use lib.Pow.{le_ones, lt_of_le_ones}
 use borrow.Author.Tests.{eqb-true, leb-true}
 use Rattle.std.specs.List.{list_all, range_with_len}
 use Rattle.semantics.specs.Numbers.{up_from, below, every}
-use Rattle.semantics.specs.Program.{Program}
 use Rattle.semantics.specs.Widths.{width_at, truncated, width_ok, values_in_range}
-use Rattle.semantics.specs.Facts.{WidthsFit}
 use Rattle.semantics.proofs.Lists.Logic.{and_left, and_right}
 use Rattle.semantics.proofs.Lists.NumberLaws.{every_below}
+use Rattle.program.specs.declared.accepted.Accepted.{Accepted as AcceptedCode}
 use Rattle.player.specs.declared.work.Work.{Work}
 use Rattle.player.specs.Work.{Masks, masked_by}
+use Rattle.player.proofs.AcceptedLaws.{is_accepted, variables_fit}
 
 -- the widths of an accepted program
-pub width_fits : (P : Program) → WidthsFit P → (v : ℕ) → v < P.variables
-    → (1 ≤ width_at P.widths v) × (width_at P.widths v ≤ 16)
+pub width_fits : (program : AcceptedCode) (v : ℕ) → v < program.lists.vars
+    → (v < 256) × (1 ≤ width_at program.lists.widths.now v) × (width_at program.lists.widths.now v ≤ 16)
 unfolding width_ok
-width_fits P f v l =
-    let width = width_at P.widths v in
-    let ok = f.each v l in
-    (leb-true 1 width (and_left _ _ ok), leb-true width 16 (and_right (leb 1 width) _ ok))
+width_fits program v l =
+    let width = width_at program.lists.widths.now v in
+    let ok = (is_accepted program).widths_fit.each v l in
+    let fit = variables_fit program in
+    (omega arith, leb-true 1 width (and_left _ _ ok), leb-true width 16 (and_right (leb 1 width) _ ok))
 
 -- the low bits of a word, so many as the width says
 pub mask_right : (width : ℕ) → width ≤ 16 → 65535 / 2 ^ (16 - width) ≡ 2 ^ width - 1
 unfolding every up_from
 mask_right width l =
     eqb-true _ _ (every_below (λ w. eqb (65535 / 2 ^ (16 - w)) (2 ^ w - 1)) 17 refl width (omega arith))
+
+-- what `greatest` needs
+pub ruleset greatest_value = (width_fits, mask_right)
 
 -- a variable keeps by its mask what it keeps by its width
 pub masked : (widths : List ℕ) (work : Work) (v value : ℕ) → Masks widths work → v < 256

@@ -12,7 +12,7 @@ use Rattle.semantics.proofs.Lists.Logic.{and_left, and_right, lt_or_le}
 use Rattle.program.specs.declared.accepted.Accepted.{Accepted as AcceptedCode}
 use Rattle.program.proofs.ValueLaws.{length-values}
 use Rattle.player.specs.Memo.{HasOperands, value_of}
-use Rattle.player.proofs.AcceptedLaws.{is_accepted}
+use Rattle.player.proofs.AcceptedLaws.{is_accepted, variables_fit}
 
 module _ (exprs values : List ℕ) where
   abbrev ByRule : ℕ → ℕ → Op → Type 0
@@ -60,7 +60,7 @@ module _ (program : AcceptedCode) where
       let word = p_at exprs e in
       let vars = program.lists.vars in
       let within = ltb-true word vars (and_left (ltb word vars) (eqb (q_at exprs e) 0) (words_ok e l VARIABLE h)) in
-      let fit = (is_accepted program).sizes.variables_fit in
+      let fit = variables_fit program in
       omega arith
 
   -- operands stand before what uses them

@@ -71,16 +71,21 @@ module _ {P : Program} {entries : List ℕ} {before : Scratch}
       right_room = sides_room x.cycle variables h.sides l
 
       -- an entry that stores nothing
-      pub right_skip : stores P (marks_of P entries) entry ≡ false → RightSidesTo P entries before scratch (k + 1)
-      right_skip s = record {
-        sides = sides_skip x.cycle variables h.sides l s;
+      pub right_skip : ((y : PairedEntry P scratch.claims entry) → stores P (marks_of P y.entries) entry ≡ false)
+          → RightSidesTo P entries before scratch (k + 1)
+      right_skip alone = record {
+        sides = sides_skip x.cycle variables h.sides l (alone right_entry);
         more = h.more;
         aged = h.aged;
         stamp = h.stamp;
       }
 
       -- an entry that stores to variable v the value of expression e
-      module _ {v e : ℕ} (s : StoresAt P (marks_of P entries) entry v e) where
+      module _ {v e : ℕ}
+          (stored : (y : PairedEntry P scratch.claims entry) → StoresAt P (marks_of P y.entries) entry v e) where
+        abbrev s : StoresAt P (marks_of P entries) entry v e
+        s = stored right_entry
+
         pub right_target : v < 256
         right_target = rw s.place (target_fits right_entry s.storing)
 

@@ -13,6 +13,7 @@ use Rattle.player.specs.declared.memo.Memo.{Memo}
 use Rattle.player.specs.Memo.{Known, new_memo}
 use Rattle.player.proofs.AcceptedLaws.{is_accepted}
 use Rattle.player.proofs.AcceptedNodeLaws.{nodes_fit}
+use Rattle.player.proofs.MaskLaws.{width_fits}
 use Rattle.player.proofs.MemoLaws.{known_unworked}
 
 -- ---- the values of the variables
@@ -80,3 +81,6 @@ mask_filled program n v e fit =
 
 -- a parent at each node: as many as fit
 pub ruleset parents_filled = (nodes_fit, length-replicate, filled_at)
+
+-- a mask at each variable: as many as fit
+pub ruleset masks_filled = (width_fits, mask_filled)

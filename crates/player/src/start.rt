@@ -37,7 +37,7 @@ fn fill_parents(program: &Accepted, work: &mut Work)
 }
 
 // The masks of the variables, over zeros.
-#[tactic(auto, using(crate::proofs::StartLaws::mask_filled))]
+#[tactic(auto, using(crate::proofs::StartLaws::masks_filled))]
 fn fill_masks(program: &Accepted, work: &mut Work)
     requires { work.old.masks ≡ replicate 256 0 }
     ensures masks { Masks (accepted_in program.now).widths work.new }
@@ -49,7 +49,7 @@ fn fill_masks(program: &Accepted, work: &mut Work)
 }
 
 // All that a run hands to its first cycle.
-#[tactic(auto, using(crate::proofs::AcceptedNodeLaws::nodes_fit))]
+#[tactic(auto, using(crate::proofs::AcceptedLaws::sizes_fit))]
 pub fn fill(program: &Accepted, values: &[u16], marks: &[u8], work: &mut Work)
     requires values_len { length values.now ≡ (accepted_in program.now).variables }
     requires marks_len { length marks.now ≡ node_count (accepted_in program.now).nodes }

@@ -7,6 +7,7 @@ use program::limits::WIDTH_MAX;
 use program::{Accepted, VarId};
 
 // The greatest value of a variable.
+#[tactic(auto, using(crate::proofs::MaskLaws::greatest_value))]
 pub fn greatest(program: &Accepted, v: VarId) -> u16
     requires { v.0 < (accepted_in program.now).variables }
     ensures { result ≡ 2 ^ width_at (accepted_in program.now).widths v.0 - 1 }

@@ -12,7 +12,7 @@ use Rattle.player.specs.declared.outcome.Outcome.{Outcome}
 use Rattle.player.specs.Memo.{Known, Holds}
 use Rattle.player.specs.Work.{new_work}
 use Rattle.player.specs.Walks.{walk_in, holds_now, Walking, Enters}
-use Rattle.player.proofs.AcceptedLaws.{is_accepted}
+use Rattle.player.proofs.AcceptedLaws.{is_accepted, variables_fit}
 use Rattle.player.proofs.RootLaws.{root_walking, root_walked, nothing_written, both_written}
 use Rattle.player.proofs.root.enter_root.Goals as goal
 
@@ -53,8 +53,7 @@ module _ {P : Program} (a : Accepted P) {n : ℕ} (fit : n ≡ node_count P.node
 
 -- ---- before node 0 is entered
 pub fill_values-requires-clause-values_len : goal.fill_values-requires-clause-values_len
-fill_values-requires-clause-values_len c =
-    omega (arith, c.requires.values, (is_accepted c.args.program.now).sizes.variables_fit)
+fill_values-requires-clause-values_len c = omega (arith, c.requires.values, variables_fit c.args.program.now)
 
 pub slice_bounds-new_marks-end : goal.slice_bounds-new_marks-end
 slice_bounds-new_marks-end c = inside (is_accepted c.args.program.now) c.requires.marks

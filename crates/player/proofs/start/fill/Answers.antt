@@ -1,13 +1,8 @@
 -- `fill` calls what fills the parts of `work`, and stores the number of marks.
-use Rattle.std.proofs.Common.{ap, arith}
+use Rattle.std.proofs.Common.{ap}
 use Rattle.program.specs.Accepted.{accepted_in}
 use Rattle.player.specs.declared.work.Work.{Work}
-use Rattle.player.proofs.AcceptedLaws.{is_accepted}
 use Rattle.player.proofs.start.fill.Goals as goal
-
-pub fill_values-requires-clause-values_len : goal.fill_values-requires-clause-values_len
-fill_values-requires-clause-values_len c =
-    omega (arith, c.requires.values_len, (is_accepted c.args.program.now).sizes.variables_fit)
 
 -- each part is the work of one call, and the later ones keep it
 pub returns : goal.returns

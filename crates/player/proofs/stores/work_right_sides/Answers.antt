@@ -14,23 +14,16 @@ target_and_source-requires c = right_entry c.requires c.loop-i.invariant c.loop-
 -- ---- an entry that stores
 
 pub claim-requires : goal.claim-requires
-claim-requires c =
-    let stored = c.in-Some.ensures in
-    let entry = right_entry c.requires c.loop-i.invariant c.loop-i-test.true in
-    right_target c.requires c.loop-i.invariant c.loop-i-test.true (stored entry)
+claim-requires c = right_target c.requires c.loop-i.invariant c.loop-i-test.true c.in-Some.ensures
 
 pub returns-then-not-claim : goal.returns-then-not-claim
 returns-then-not-claim c =
-    let stored = c.in-Some.ensures in
-    let entry = right_entry c.requires c.loop-i.invariant c.loop-i-test.true in
-    right_refused c.requires c.loop-i.invariant c.loop-i-test.true (stored entry) c.claim.ensures c.if-not-claim.true
+    right_refused c.requires c.loop-i.invariant c.loop-i-test.true c.in-Some.ensures c.claim.ensures c.if-not-claim.true
 
 pub right_side-value-requires : goal.right_side-value-requires
 right_side-value-requires c =
-    let stored = c.in-Some.ensures in
-    let entry = right_entry c.requires c.loop-i.invariant c.loop-i-test.true in
     record {
-      e_bound = right_expression c.requires c.loop-i.invariant c.loop-i-test.true (stored entry);
+      e_bound = right_expression c.requires c.loop-i.invariant c.loop-i-test.true c.in-Some.ensures;
       known = c.loop-i.invariant.more.known;
     }
 
@@ -43,14 +36,11 @@ pub loop-i-preserved : goal.loop-i-preserved
 loop-i-preserved c =
     let l = c.loop-i in
     let more = c.loop-i-test.true in
-    let entry = right_entry c.requires l.invariant more in
     elim c.match-target_and_source.branch [
-      | in-Some+else-not-claim w ↦ rw w.scratch-is (
-          let stored = w.in-Some.ensures in
-          right_more c.requires l.invariant more (stored entry) w.claim.ensures w.if-not-claim.false
+      | in-Some+else-not-claim w ↦ rw w.scratch-is
+          (right_more c.requires l.invariant more w.in-Some.ensures w.claim.ensures w.if-not-claim.false
           w.right_side-value.ensures w.push.ensures.items)
-      | in_default w ↦ rw w.scratch-is (
-          let alone = w.in_default.ensures in right_skip c.requires l.invariant more (alone entry))
+      | in_default w ↦ rw w.scratch-is (right_skip c.requires l.invariant more w.in_default.ensures)
     ]
 
 pub returns : goal.returns
