@@ -5,12 +5,13 @@ use mathlib.Core.Bool.{Bool, true, false, cond, not}
 use mathlib.Core.List.{List, [], ◌∷◌}
 use mathlib.Core.Logic.{◌≢◌}
 use Prim.Native.Nat.{ℕ, ◌≤◌, ◌<◌}
+use native.Mathlib.Nat.{sub-zero}
 use native.Mathlib.Omega.{arith}
 use lib.Dec.{eqb}
 use lib.ListN.{length, get_or, take, length-take}
 use lib.Seq.{length-take-le}
 use borrow.Author.Tests.{ne_eqb}
-use Rattle.std.specs.Prelude.{Result, Ok, Err, ⊤}
+use Rattle.std.specs.Prelude.{Result, Ok, Err, ⊤, slice_range}
 use Rattle.std.specs.Result.{IsErr, IsErrAnd}
 use Rattle.semantics.specs.Program.{Program}
 use Rattle.semantics.specs.Questions.{ask, first_no}
@@ -35,15 +36,19 @@ use Rattle.player.specs.Stores.{WorkedMore}
 use Rattle.player.specs.Cycle.{Runnable, Carried, CycleAnswer, CycleFrom, Advanced, walk_after, first_questions, AskAnswer, AdvanceAnswer, WorkedCycle}
 use Rattle.player.proofs.UndoLaws.{formed_bits}
 
+-- the front of the book, as `get` gives it
+pub front : (book : List ℕ) (m : ℕ) {entries : List ℕ} → entries ≡ slice_range book 0 m → entries ≡ take m book
+front book m part = part ∙ ap (λ (k : ℕ). take k book) (sub-zero m)
+
 -- the next m entries of the book, as many as there are marks
 abbrev pub cycle_from : {P : Program} {s : State} {m : ℕ} (book entries : List ℕ) → Runnable P s
-    → m ≡ mark_count s.marks → m ≤ length book → entries ≡ take m book → CycleFrom P s.marks entries
-cycle_from {P} {s} {m} book entries r count enough are =
+    → m ≡ mark_count s.marks → m ≤ length book → entries ≡ slice_range book 0 m → CycleFrom P s.marks entries
+cycle_from {P} {s} {m} book entries r count enough part =
     record {
       accepted = accepted P r.accepted;
       marks_fit = (fits_lengths P s r.ready.fit).marks;
       bits = formed_bits P s r.ready.formed;
-      as_many = ap length are ∙ length-take-le m book enough ∙ count;
+      as_many = ap length (front book m part) ∙ length-take-le m book enough ∙ count;
     }
 
 -- where more expressions are worked, a cycle hands on the same
@@ -119,7 +124,7 @@ module _ (P : Program) (s : State) (book : List ℕ) {m : ℕ} (count : m ≡ ma
   pub worked_short : {scratch : Scratch} → length book < m → WorkedCycle P s book before (Err Entries) s scratch
   worked_short l = refused Entries refl (answer_short P s book count l)
 
-  module _ {entries : List ℕ} (are : entries ≡ take m book) {marks₁ : List ℕ} {scratch₁ : Scratch} where
+  module _ {entries : List ℕ} (part : entries ≡ slice_range book 0 m) {marks₁ : List ℕ} {scratch₁ : Scratch} where
     -- `?` passes on what questions 7 to 9 refuse
     pub worked_refused : (r : Result ⊤ Refusal) (refusal : Refusal) → IsErr r × IsErrAnd r (λ x. x ≡ refusal)
         → AskAnswer P s.marks entries before (Err refusal) marks₁ scratch₁
@@ -129,7 +134,7 @@ module _ (P : Program) (s : State) (book : List ℕ) {m : ℕ} (count : m ≡ ma
         let some = some_number refusal in
         let no_zero : question_number refusal ≢ 0 = λ z. omega arith in
         rw (e.1, a.kept no_zero)
-        (refused refusal a.no_item (answer_asked P s book count are a.asked no_zero))
+        (refused refusal a.no_item (answer_asked P s book count (front book m part) a.asked no_zero))
 
     pub worked_advanced : AskAnswer P s.marks entries before (Ok tt) marks₁ scratch₁
         → {r : Result ⊤ Refusal} {s' : State} {scratch : Scratch}
@@ -138,7 +143,7 @@ module _ (P : Program) (s : State) (book : List ℕ) {m : ℕ} (count : m ≡ ma
     worked_advanced a {r} {s'} {scratch} b =
         let yes = a.yes refl in
         record {
-          answer = answer_last P s book count are a.asked refl
+          answer = answer_last P s book count (front book m part) a.asked refl
               (rw (← yes.are_marked) at b.advanced);
           no_item = b.no_item;
           carried = b.carried;

@@ -1,16 +1,10 @@
 -- `work_cycle` takes as many entries as there are marks, asks questions 7 to 9 of them and advances where none is
 -- answered no.
-use Rattle.std.proofs.Common.{◌≡◌, ℕ, ◌<◌, List, take, replicate, refl, ap, ◌∙◌, inl, inr, arith}
+use Rattle.std.proofs.Common.{ℕ, ◌<◌, replicate, refl, ap, ◌∙◌, inl, inr, arith}
 use mathlib.Core.Logic.{◌⊎◌}
-use native.Mathlib.Nat.{sub-zero}
-use Rattle.std.specs.Prelude.{slice_range}
 use Rattle.semantics.proofs.Order.CycleOrder.{fits_lengths}
 use Rattle.player.proofs.CycleAnswerLaws.{cycle_from, carried_more, worked_short, worked_refused, worked_advanced}
 use Rattle.player.proofs.cycle.work_cycle.Goals as goal
-
--- the front of a list, as `get` gives it
-front : (list : List ℕ) (m : ℕ) {part : List ℕ} → part ≡ slice_range list 0 m → part ≡ take m list
-front list m e = e ∙ ap (λ (k : ℕ). take k list) (sub-zero m)
 
 short : {m n : ℕ} → (m < 0) ⊎ (n < m) → n < m
 short (inl l) = absurd (omega arith)
@@ -25,17 +19,14 @@ returns-in_default c =
 pub ask-requires-clause-from : goal.ask-requires-clause-from
 ask-requires-clause-from c =
     let there = c.in-Some.ensures.lookup.0 in
-    let are = front c.args.book.now c.args.scratch.now.work.tally there.2 in
-    cycle_from c.args.book.now _ c.requires.runnable c.requires.carried.tally there.1 are
+    cycle_from c.args.book.now _ c.requires.runnable c.requires.carried.tally there.1 there.2
 
 -- ---- questions 7 to 9 are asked
 
 pub returns-in_err-ask : goal.returns-in_err-ask
 returns-in_err-ask c =
-    let there = c.in-Some.ensures.lookup.0 in
-    let are = front c.args.book.now c.args.scratch.now.work.tally there.2 in
-    let answer = c.in_err-ask.ensures in
-    worked_refused _ _ c.args.book.now c.requires.carried.tally are _ _ c.from_residual.ensures answer
+    worked_refused _ _ c.args.book.now c.requires.carried.tally c.in-Some.ensures.lookup.0.2 _ _ c.from_residual.ensures
+    c.in_err-ask.ensures
 
 pub advance-requires : goal.advance-requires
 advance-requires c =
@@ -51,7 +42,5 @@ advance-requires c =
 
 pub returns : goal.returns
 returns c =
-    let there = c.in-Some.ensures.lookup.0 in
-    let are = front c.args.book.now c.args.scratch.now.work.tally there.2 in
-    let answer = c.in_ok-ask.ensures in
-    worked_advanced _ _ c.args.book.now c.requires.carried.tally are answer c.advance.ensures
+    worked_advanced _ _ c.args.book.now c.requires.carried.tally c.in-Some.ensures.lookup.0.2 c.in_ok-ask.ensures
+    c.advance.ensures
