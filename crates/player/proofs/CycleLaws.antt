@@ -148,34 +148,8 @@ module _ {P : Program} {entries : List ℕ} (x : CycleOf P entries) where
       → leb (length (filter f (active marks))) 1 ≡ leb (length (filter f entries)) 1
   single_entries f = ap (λ (n : ℕ). leb n 1) (sym (entry_count marks entries x.entries_active f))
 
-  module _ (i : ℕ) (m : marked marks i ≡ true) where
-    pub marked_node : i < node_count P.nodes
-    marked_node = subst (λ (n : ℕ). i < n) (marks_of-length P entries) (marked_below marks i m)
-
-    pub in_channel : has_kind P.nodes is_in i ≡ true → a_at P.nodes i < P.channels
-    in_channel k = node_in_channel x.accepted i marked_node k
-
-    pub out_channel : has_kind P.nodes is_out i ≡ true → a_at P.nodes i < P.channels
-    out_channel k = node_out_channel x.accepted i marked_node k
-
-    pub asg_variable : has_kind P.nodes is_asg i ≡ true → a_at P.nodes i < P.variables
-    asg_variable k = node_asg_variable x.accepted i marked_node k
-
-    pub in_variable : has_kind P.nodes is_in i ≡ true → b_at P.nodes i < P.variables
-    in_variable k = node_in_variable x.accepted i marked_node k
-
-    pub asg_expression : has_kind P.nodes is_asg i ≡ true → b_at P.nodes i < expr_count P.exprs
-    asg_expression k = node_asg_expression x.accepted i marked_node k
-
-    pub out_expression : has_kind P.nodes is_out i ≡ true → b_at P.nodes i < expr_count P.exprs
-    out_expression k = node_out_expression x.accepted i marked_node k
-
-  -- there are at most 256 of each
-  pub channel_fits : {c : ℕ} → c < P.channels → c < 256
-  channel_fits l = lt_of_lt_of_le l x.accepted.sizes.channels_fit
-
-  pub variable_fits : {v : ℕ} → v < P.variables → v < 256
-  variable_fits l = lt_of_lt_of_le l x.accepted.sizes.variables_fit
+  pub marked_node : (i : ℕ) → marked marks i ≡ true → i < node_count P.nodes
+  marked_node i m = subst (λ (n : ℕ). i < n) (marks_of-length P entries) (marked_below marks i m)
 
 -- ---- a marked node
 
@@ -185,11 +159,3 @@ abbrev pub entry_at : {P : Program} {entries : List ℕ} {claims : Claims} (x : 
 entry_at {P} {entries} x p k l =
     let m = entry_marked x k l in
     record { entries = entries; cycle = x; paired = p; within = marked_node x (get_or entries k 0) m; is_marked = m }
-
-module _ {P : Program} {claims : Claims} {i : ℕ} (x : PairedEntry P claims i) where
-  -- the channel of an IN, and of an OUT
-  pub in_fits : kind_at P.nodes i ≡ LEAF IN → a_at P.nodes i < 256
-  in_fits k = channel_fits x.cycle (in_channel x.cycle i x.is_marked (ap (leaf_test is_in) k))
-
-  pub out_fits : kind_at P.nodes i ≡ LEAF OUT → a_at P.nodes i < 256
-  out_fits k = channel_fits x.cycle (out_channel x.cycle i x.is_marked (ap (leaf_test is_out) k))

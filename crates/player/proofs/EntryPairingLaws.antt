@@ -71,3 +71,9 @@ nothing_paired nodes i claims a b =
       writers = refl;
       stamp = refl;
     }
+
+-- the slots that a leaf claims or looks up
+pub ruleset channel_slots = (in_slot, out_slot)
+
+-- what `pair_one` needs
+pub ruleset pairing_one = (channel_slots, in_paired, out_paired, nothing_paired)

@@ -5,10 +5,11 @@ use mathlib.Core.List.{List, [], ◌∷◌}
 use mathlib.Core.Option.{Option, some}
 use mathlib.Core.Logic.{inl, inr}
 use Prim.Native.Nat.{ℕ, suc, ◌<◌}
+use native.Mathlib.Nat.{lt_of_lt_of_le}
 use native.Mathlib.Omega.{arith}
 use lib.Dec.{eqb, eqb-suc-zero}
 use lib.ListN.{get_or, set}
-use Rattle.semantics.specs.Program.{Program, expr_count, node_count, kind_at, a_at, b_at}
+use Rattle.semantics.specs.Program.{Program, expr_count, node_count, kind_at, a_at, b_at, leaf_test}
 use Rattle.semantics.specs.Program.Kind.{LEAF}
 use Rattle.semantics.specs.Program.Leaf.{ASG, IN}
 use Rattle.semantics.specs.Widths.{truncated}
@@ -20,8 +21,8 @@ use Rattle.player.specs.declared.claims.Claims.{Claims}
 use Rattle.player.specs.Claims.{rank_of, rank_in}
 use Rattle.player.specs.Channels.{marks_of, PairedEntry, has_kind}
 use Rattle.player.specs.Stores.{StoresAt}
-use Rattle.player.proofs.CycleLaws.{first_active, marked_node, in_fits, asg_variable, in_variable, variable_fits}
-use Rattle.player.proofs.CycleLaws.{asg_expression, out_expression}
+use Rattle.player.proofs.CycleLaws.{first_active, marked_node, node_in_fits, node_asg_variable, node_in_variable}
+use Rattle.player.proofs.CycleLaws.{node_asg_expression, node_out_expression}
 use Rattle.player.proofs.PairingLaws.{in_waits, never_waits}
 
 -- ---- one node
@@ -59,11 +60,11 @@ module _ {P : Program} {claims : Claims} {i : ℕ} (x : PairedEntry P claims i) 
   target_inside h = pick (has_kind P.nodes is_asg i) refl
     where
       pick : (b : Bool) → has_kind P.nodes is_asg i ≡ b → cond b (a_at P.nodes i) (b_at P.nodes i) < P.variables
-      pick true e = asg_variable x.cycle i x.is_marked e
-      pick false e = in_variable x.cycle i x.is_marked (in_kind h e)
+      pick true e = node_asg_variable x.cycle.accepted i x.within e
+      pick false e = node_in_variable x.cycle.accepted i x.within (in_kind h e)
 
   pub target_fits : entry_stores ≡ true → target P marks i < 256
-  target_fits h = variable_fits x.cycle (target_inside h)
+  target_fits h = lt_of_lt_of_le (target_inside h) x.cycle.accepted.sizes.variables_fit
 
   -- ---- the expression that it stores
 
@@ -93,7 +94,7 @@ module _ {P : Program} {claims : Claims} {i : ℕ} (x : PairedEntry P claims i) 
     module _ {j : ℕ} (r : rank ≡ suc j) where
       sent_first : (rest : List ℕ) × (sent ≡ j ∷ rest)
       sent_first =
-          pick sent refl (sym (x.paired.outputs (a_at P.nodes i) (in_fits x k)) ∙ r)
+          pick sent refl (sym (x.paired.outputs (a_at P.nodes i) (node_in_fits x.cycle.accepted i x.within (ap (leaf_test is_in) k))) ∙ r)
         where
           pick : (xs : List ℕ) → sent ≡ xs → rank_of xs ≡ suc j → (rest : List ℕ) × (sent ≡ j ∷ rest)
           pick [] e q = absurd (omega arith)
@@ -116,13 +117,13 @@ module _ {P : Program} {claims : Claims} {i : ℕ} (x : PairedEntry P claims i) 
       sends [] s q = absurd (let z : ◌≡◌ {A = ℕ} 0 1 = cc in omega arith)
       sends (y ∷ ys) s q =
           let same : b_at P.nodes y ≡ e = cc in
-          rw (sym same) (out_expression x.cycle y (sender_out s).0 (sender_out s).1)
+          rw (sym same) (node_out_expression x.cycle.accepted y (marked_node x.cycle y (sender_out s).0) (sender_out s).1)
 
       pick : (b : Bool) → has_kind P.nodes is_asg i ≡ b
           → cond b (some (b_at P.nodes i)) (sent_by P.nodes sent) ≡ some e → e < expr_count P.exprs
       pick true k q =
           let same : b_at P.nodes i ≡ e = cc in
-          rw (sym same) (asg_expression x.cycle i x.is_marked k)
+          rw (sym same) (node_asg_expression x.cycle.accepted i x.within k)
       pick false k q = sends sent refl q
 
   -- ---- its store

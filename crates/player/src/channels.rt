@@ -20,7 +20,7 @@ fn channel_of(program: &Accepted, i: u16) -> ChanId
 
 // Node i claims its channel, for input if it is an IN and for output if it is an OUT: whether it was free, a bool as in `claim`.
 // `PairedEntry`, here and in stores.rt and visits.rt, is said of a program, claims and a number, of which none has the others.
-#[tactic(auto, using(crate::proofs::EntryPairingLaws::nothing_paired))]
+#[tactic(auto, using(crate::proofs::EntryPairingLaws::pairing_one))]
 fn pair_one(program: &Accepted, i: u16, claims: &mut Claims) -> bool
     requires { i < node_count (accepted_in program.now).nodes }
     ensures { EntryPairing (accepted_in program.now).nodes i result claims.old claims.new }
@@ -59,7 +59,7 @@ pub fn pair_entries(
 
 // Whether node i, a marked one, waits: an IN with no OUT marked on its channel, or an OUT with no IN.
 // The clause is for any entries x.entries of the cycle; they are not handed over, since the claims tell all that is asked.
-#[tactic(auto, using(crate::proofs::PairingLaws::never_waits))]
+#[tactic(auto, using(crate::proofs::EntryPairingLaws::channel_slots, crate::proofs::PairingLaws::never_waits))]
 pub fn waits(program: &Accepted, claims: &Claims, i: u16) -> bool
     requires { PairedEntry (accepted_in program.now) claims.now i }
     ensures { (x : PairedEntry (accepted_in program.now) claims.now i)

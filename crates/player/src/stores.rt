@@ -29,6 +29,7 @@ pub type Stores = ArrayVec<Store, NODES_MAX>;
 // The variable that node i, a marked one, stores to, and the expression whose value it stores, where it stores: an ASG
 // has both; an IN for which an OUT is marked has the variable, and the OUT the expression.
 // The clause is for any entries x.entries of the cycle; they are not handed over, since the claims tell all that is asked.
+#[tactic(auto, using(crate::proofs::EntryPairingLaws::channel_slots))]
 fn target_and_source(program: &Accepted, claims: &Claims, i: u16) -> Option<(VarId, u16)>
     requires { PairedEntry (accepted_in program.now) claims.now i }
     ensures { (x : PairedEntry (accepted_in program.now) claims.now i)

@@ -1,21 +1,14 @@
 -- `waits` looks up the other leaf on the channel of an IN or OUT.
 use mathlib.Core.Path.{sym, ◌∙◌}
 use Rattle.std.proofs.Common.{rules}
-use Rattle.player.proofs.CycleLaws.{in_fits, out_fits}
 use Rattle.player.proofs.RankLaws.{no_claimant}
 use Rattle.player.proofs.PairingLaws.{in_waits, out_waits}
 use Rattle.player.proofs.channels.waits.Goals as goal
-
-pub sender-requires : goal.sender-requires
-sender-requires c = rw c.channel_of.ensures (in_fits c.requires (search rules))
 
 pub returns-in-Leaf-In : goal.returns-in-Leaf-In
 returns-in-Leaf-In c = λ x.
     no_claimant _ _ (rw c.channel_of.ensures at c.sender.ensures) c.is_none.ensures
     ∙ sym (in_waits x.cycle c.args.i x.is_marked x.paired (search rules))
-
-pub receiver-requires : goal.receiver-requires
-receiver-requires c = rw c.channel_of-in-Leaf-Out.ensures (out_fits c.requires (search rules))
 
 pub returns-in-Leaf-Out : goal.returns-in-Leaf-Out
 returns-in-Leaf-Out c = λ x.

@@ -1,6 +1,5 @@
 -- `target_and_source` answers by the kind: an ASG stores, and an IN where an OUT has claimed its channel.
 use Rattle.std.proofs.Common.{rules}
-use Rattle.player.proofs.CycleLaws.{in_fits}
 use Rattle.player.proofs.StoreLaws.{asg_stores, in_alone, sender_node, in_stored}
 use Rattle.player.proofs.stores.target_and_source.Goals as goal
 
@@ -8,9 +7,6 @@ pub returns-in-Leaf-Asg : goal.returns-in-Leaf-Asg
 returns-in-Leaf-Asg c = λ x. rw (c.node-a.ensures.a, c.node-a.ensures.b) (asg_stores x (search rules))
 
 -- ---- an IN
-
-pub sender-requires : goal.sender-requires
-sender-requires c = rw c.node-a.ensures.a (in_fits c.requires (search rules))
 
 pub returns-in_err-sender-in-Leaf-In : goal.returns-in_err-sender-in-Leaf-In
 returns-in_err-sender-in-Leaf-In c =
