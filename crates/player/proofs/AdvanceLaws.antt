@@ -73,10 +73,10 @@ module _ {P : Program} {values counts entries : List ℕ} {before : Scratch}
     begun = record work { tally = 0 }
 
     pub climbing : Climbing P.nodes begun
-    climbing i l = ap (λ (w : Work). get_or w.parents i 0) d.kept ∙ carried.climbing i l
+    climbing i l = rw (ap (λ (w : Work). w.parents) d.kept) (carried.climbing i l)
 
     masks : Masks P.widths begun
-    masks v l = ap (λ (w : Work). get_or w.masks v 0) d.kept ∙ carried.masks v l
+    masks v l = rw (ap (λ (w : Work). w.masks) d.kept) (carried.masks v l)
 
     unmet : begun.looped ≡ false
     unmet = ap (λ (w : Work). w.looped) d.kept ∙ carried.unmet
@@ -128,10 +128,10 @@ module _ {P : Program} {values counts entries : List ℕ} {before : Scratch}
               no_item = refl;
               carried = λ n. record {
                 known = w.walking.known;
-                holds = λ v. ap (λ (vs : List ℕ). get_or vs v 0) w.kept.variables ∙ d.holds v;
+                holds = λ v. rw w.kept.variables (d.holds v);
                 tally = w.walking.tally;
-                climbing = λ i l. ap (λ (ps : List ℕ). get_or ps i 0) w.kept.parents ∙ climbing i l;
-                masks = λ v l. ap (λ (ms : List ℕ). get_or ms v 0) w.kept.masks ∙ masks v l;
+                climbing = λ i l. rw w.kept.parents (climbing i l);
+                masks = λ v l. rw w.kept.masks (masks v l);
                 unmet = no_loop;
               };
               claims_kept = refl;

@@ -56,10 +56,10 @@ pub carried_more : {P : Program} {values marks : List ℕ} {before work : Work} 
     → WorkedMore P.exprs before work → Carried P values marks work
 carried_more {P} {values} {marks} c m = record {
   known = m.known;
-  holds = λ v. ap (λ (vs : List ℕ). get_or vs v 0) m.same.variables ∙ c.holds v;
+  holds = λ v. rw m.same.variables (c.holds v);
   tally = ap (λ (w : Work). w.tally) m.kept ∙ c.tally;
-  climbing = λ i l. ap (λ (w : Work). get_or w.parents i 0) m.kept ∙ c.climbing i l;
-  masks = λ v l. ap (λ (w : Work). get_or w.masks v 0) m.kept ∙ c.masks v l;
+  climbing = λ i l. rw (ap (λ (w : Work). w.parents) m.kept) (c.climbing i l);
+  masks = λ v l. rw (ap (λ (w : Work). w.masks) m.kept) (c.masks v l);
   unmet = ap (λ (w : Work). w.looped) m.kept ∙ c.unmet;
 }
 

@@ -181,8 +181,7 @@ module _ {old : List ℕ} {before : Work} {listed : List Store} {changed : Bool}
     pub stored_moment : {memo : Memo} → Unworked work.memo memo
         → Stored old before listed values (record work { memo = memo }) left
     stored_moment {memo} u =
-        stored-all (λ v. ap (λ (vs : List ℕ). get_or vs v 0) u.variables ∙ h.variables v)
-        (λ exprs k. known_unworked exprs work.memo memo u)
+        stored-all (λ v. rw u.variables (h.variables v)) (λ exprs k. known_unworked exprs work.memo memo u)
 
     -- no value has changed
     pub stored_same : Holds old before.memo → changed ≡ false → Stored old before listed values work left
@@ -190,7 +189,7 @@ module _ {old : List ℕ} {before : Work} {listed : List Store} {changed : Bool}
         stored-all h.variables (λ exprs k.
         subst (Known exprs) (sym memo_after)
         (known_rewritten exprs before.memo work.memo.variables h.size
-        (λ v. h.variables v ∙ ap (λ (vs : List ℕ). get_or vs v 0) (h.same no_change) ∙ sym (holds v)) k))
+        (λ v. h.variables v ∙ rw (h.same no_change) (sym (holds v))) k))
 
 -- ---- the stores are taken back, the last first
 

@@ -27,8 +27,7 @@ visit-requires-clause-paired_entry c =
     entry_at c.requires.cycle c.requires.paired c.loop-i.i-index c.loop-i-test.true
 
 pub visit-requires-clause-climbing : goal.visit-requires-clause-climbing
-visit-requires-clause-climbing c = λ i l.
-    ap (λ (parents : List ℕ). get_or parents i 0) c.loop-i.invariant.kept.parents ∙ c.requires.climbing i l
+visit-requires-clause-climbing c = λ i l. rw c.loop-i.invariant.kept.parents (c.requires.climbing i l)
 
 pub loop-i-preserved : goal.loop-i-preserved
 loop-i-preserved c =
