@@ -11,7 +11,7 @@ use lib.Dec.{leb}
 use lib.ListN.{length, get_or, set, drop, replicate, length-set, length-replicate}
 use lib.Seq.{drop-cons}
 use Rattle.semantics.specs.Numbers.{below, filter}
-use Rattle.semantics.specs.Program.{Program, Kind, Leaf, expr_count, node_count, kind_at, a_at, b_at, leaf_test}
+use Rattle.semantics.specs.Program.{Program, Kind, Leaf, expr_count, node_count, a_at, b_at, leaf_test}
 use Rattle.semantics.specs.Program.Kind.{SEQ, PAR, IF, WHL, LEAF, UNKNOWN}
 use Rattle.semantics.specs.Program.Leaf.{ASG, IN, OUT, DLY}
 use Rattle.semantics.specs.Check.{references_ok}

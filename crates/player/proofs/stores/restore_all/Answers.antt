@@ -8,8 +8,12 @@ use Rattle.player.proofs.stores.restore_all.Goals as goal
 
 pub loop-store-init : goal.loop-store-init
 loop-store-init c =
-    rw (c.into_iter-store-iterator.ensures.into_iter_gives, c.rev-store-items.ensures.source,
-    c.iter.ensures.rest, c.as_slice.ensures.value)
+    rw (
+      c.into_iter-store-iterator.ensures.into_iter_gives,
+      c.rev-store-items.ensures.source,
+      c.iter.ensures.rest,
+      c.as_slice.ensures.value,
+    )
     (restore_start c.requires)
 
 pub loop-store-preserved : goal.loop-store-preserved
