@@ -40,7 +40,7 @@ module _ (P : Program) (a : Accepted P) (i : ℕ) (l : i < node_count P.nodes) w
 pub variables_fit : (program : AcceptedCode) → program.lists.vars ≤ 256
 variables_fit program = (is_accepted program).sizes.variables_fit
 
--- found by the number of the nodes where a goal has it
+-- with the number of the nodes, by which a search comes to it
 pub sizes_fit : (program : AcceptedCode) → (node_count program.lists.nodes.now ≤ 1024) × (program.lists.vars ≤ 256)
 sizes_fit program = ((is_accepted program).sizes.nodes_fit, variables_fit program)
 

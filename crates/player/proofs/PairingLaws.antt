@@ -22,7 +22,8 @@ use Rattle.player.specs.Claims.{rank_of, rank_in, is_free, Claims, Aged, Fresh, 
 use Rattle.player.specs.Channels.{marks_of, CycleOf, Ranked, Paired, Pairing, EntryPairing, has_kind}
 use Rattle.player.proofs.RankLaws.{unclaimed_rank, unclaimed_old}
 use Rattle.player.proofs.ClaimLaws.{claims_none, claims_more, claims_refused, claims-all}
-use Rattle.player.proofs.CycleLaws.{node_in_channel, node_out_channel, node_in_fits, node_out_fits, entry_marked, marked_node, single_entries, no_in, no_out}
+use Rattle.player.proofs.CycleLaws.{node_in_channel, node_out_channel, node_in_fits, node_out_fits, entry_marked}
+use Rattle.player.proofs.CycleLaws.{marked_node, single_entries, no_in, no_out}
 
 empty_rank : (xs : List ℕ) → is_empty xs ≡ eqb (rank_of xs) 0
 empty_rank [] = refl
@@ -148,7 +149,8 @@ module _ {P : Program} {entries : List ℕ} (x : CycleOf P entries) where
         let node = marked_node x entry (entry_marked x k l) in
         let ins = claims_refused _ _ _ entries k l _ h.ins (node_in_fits ok entry node) in
         let outs = claims_refused _ _ _ entries k l _ h.outs (node_out_fits ok entry node) in
-        grind (arith, ins, outs, node_in_channel ok entry node, node_out_channel ok entry node, each_once (a_at P.nodes entry))
+        let once = each_once (a_at P.nodes entry) in
+        grind (arith, ins, outs, node_in_channel ok entry node, node_out_channel ok entry node, once)
 
   -- ---- which leaves wait
 
@@ -157,14 +159,16 @@ module _ {P : Program} {entries : List ℕ} (x : CycleOf P entries) where
         → waits P marks i ≡ eqb (rank_in claims.outputs claims.stamp (a_at P.nodes i)) 0
     unfolding waits
     in_waits k =
-        rw (k, or-false, p.outputs (a_at P.nodes i) (node_in_fits x.accepted i (marked_node x i m) (ap (leaf_test is_in) k)))
+        let fits = node_in_fits x.accepted i (marked_node x i m) (ap (leaf_test is_in) k) in
+        rw (k, or-false, p.outputs (a_at P.nodes i) fits)
         (empty_rank (marked_on P marks is_out (a_at P.nodes i)))
 
     pub out_waits : kind_at P.nodes i ≡ LEAF OUT
         → waits P marks i ≡ eqb (rank_in claims.inputs claims.stamp (a_at P.nodes i)) 0
     unfolding waits
     out_waits k =
-        rw (k, p.inputs (a_at P.nodes i) (node_out_fits x.accepted i (marked_node x i m) (ap (leaf_test is_out) k)))
+        let fits = node_out_fits x.accepted i (marked_node x i m) (ap (leaf_test is_out) k) in
+        rw (k, p.inputs (a_at P.nodes i) fits)
         (empty_rank (marked_on P marks is_in (a_at P.nodes i)))
 
 -- no other leaf waits

@@ -94,7 +94,8 @@ module _ {P : Program} {claims : Claims} {i : ℕ} (x : PairedEntry P claims i) 
     module _ {j : ℕ} (r : rank ≡ suc j) where
       sent_first : (rest : List ℕ) × (sent ≡ j ∷ rest)
       sent_first =
-          pick sent refl (sym (x.paired.outputs (a_at P.nodes i) (node_in_fits x.cycle.accepted i x.within (ap (leaf_test is_in) k))) ∙ r)
+          let fits = node_in_fits x.cycle.accepted i x.within (ap (leaf_test is_in) k) in
+          pick sent refl (sym (x.paired.outputs (a_at P.nodes i) fits) ∙ r)
         where
           pick : (xs : List ℕ) → sent ≡ xs → rank_of xs ≡ suc j → (rest : List ℕ) × (sent ≡ j ∷ rest)
           pick [] e q = absurd (omega arith)
@@ -117,7 +118,8 @@ module _ {P : Program} {claims : Claims} {i : ℕ} (x : PairedEntry P claims i) 
       sends [] s q = absurd (let z : ◌≡◌ {A = ℕ} 0 1 = cc in omega arith)
       sends (y ∷ ys) s q =
           let same : b_at P.nodes y ≡ e = cc in
-          rw (sym same) (node_out_expression x.cycle.accepted y (marked_node x.cycle y (sender_out s).0) (sender_out s).1)
+          let (is_marked, sends_out) = sender_out s in
+          rw (sym same) (node_out_expression x.cycle.accepted y (marked_node x.cycle y is_marked) sends_out)
 
       pick : (b : Bool) → has_kind P.nodes is_asg i ≡ b
           → cond b (some (b_at P.nodes i)) (sent_by P.nodes sent) ≡ some e → e < expr_count P.exprs
