@@ -4,4 +4,3 @@ pub mod BytesLaws
 pub mod FileLaws
 pub mod FileCallLaws
 pub mod RoundTrip
-pub mod FileSamplesPass

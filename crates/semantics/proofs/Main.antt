@@ -21,7 +21,6 @@ use Rattle.semantics.specs.Plain.{are_words, plain_check_number, plain_begin_ans
 use Rattle.semantics.specs.File.{Parts, exprs_back, sizes_of, parts_of, program_from}
 use Rattle.semantics.specs.FileCalls.{filled, all_fit, all_filled, read_answer, write_answer, sizes_answer}
 use Rattle.semantics.specs.Samples.{samples, all_pass}
-use Rattle.semantics.specs.FileSamples.{file_samples, all_files_pass}
 use Rattle.semantics.proofs.Run.SamplesPass
 use Rattle.semantics.proofs.Order.OrderRule
 use Rattle.semantics.proofs.Order.RunTheorems
@@ -29,7 +28,6 @@ use Rattle.semantics.proofs.Order.VariableWidths
 use Rattle.semantics.proofs.Order.OldPapers
 use Rattle.semantics.proofs.Order.FirstFault
 use Rattle.semantics.proofs.Files.RoundTrip
-use Rattle.semantics.proofs.Files.FileSamplesPass
 
 -- The order rule. For an accepted program and a state that questions 5 and 6 let by, two books give equal answers of
 -- run (number, item, cycles worked and the three lists) exactly when both first go wrong at the same cycle, or neither
@@ -153,10 +151,6 @@ pub read_then_write : (file : List ℕ) → are_bytes file ≡ true → (lent : 
     ≡ record { number = 0; item = 0; buffer = filled file buffer })
 read_then_write = RoundTrip.read_then_write
 
--- Check, begin and run answer every sample paper of specs/Samples as written there.
+-- Check, begin, run, read, write and sizes answer every sample of specs/Samples as written there.
 pub samples_pass : all_pass samples ≡ true
 samples_pass = SamplesPass.samples_pass
-
--- Read, write and sizes answer every sample of specs/FileSamples as written there.
-pub file_samples_pass : all_files_pass file_samples ≡ true
-file_samples_pass = FileSamplesPass.file_samples_pass

@@ -25,9 +25,9 @@ pub mod Calls
 pub mod Bytes
 pub mod File
 pub mod FileCalls
--- "Sample papers", and the samples of request 3
+-- "Sample papers", and the samples of request 3 with their files
+pub mod SampleFiles
 pub mod Samples
-pub mod FileSamples
 -- no rules: the questions as facts, for contracts
 pub mod Facts
 -- no rules: the rules without widths, for the theorem on old papers

@@ -1,11 +1,15 @@
--- The papers of the section "Sample papers" that are to be proved, three more, and those of requests 1 and 2, as one
--- list. Each begins and then runs, through all the questions, as the calls do; `proofs/Run/SamplesPass.antt` has the
--- theorem on the list.
-use Rattle.std.specs.Prelude.{Bool, true, false, ◌&&◌, List, [], ◌∷◌, ◌++◌, ℕ, eqb, replicate}
+-- The papers of the section "Sample papers" that are to be proved, three more, and those of requests 1 to 3, as one
+-- list. Each begins and then runs, or is read from a file or written to one, through all the questions, as the calls
+-- do; `proofs/Run/SamplesPass.antt` has the theorem on the list.
+use Rattle.std.specs.Prelude.{Bool, true, false, ◌&&◌, List, [], ◌∷◌, ◌++◌, ℕ, eqb, length, replicate}
 use Rattle.semantics.specs.Program.{Program, node_count}
 use Rattle.semantics.specs.State.{State}
 use Rattle.semantics.specs.Check.{check_number, fault_item}
 use Rattle.semantics.specs.Calls.{Answer, begin_answer, run_answer}
+use Rattle.semantics.specs.File.{Sizes, Parts}
+use Rattle.semantics.specs.FileCalls.{Reading, Writing, read_answer, write_answer, sizes_answer}
+use Rattle.semantics.specs.SampleFiles.{delay_file, input_exprs, input_nodes, input_values, input_widths, input_trailer}
+use Rattle.semantics.specs.SampleFiles.{input_file, faulty_file}
 
 -- A paper: a program with starting values, the cycles asked and the book; what check, begin and run must answer.
 pub record Paper : Type 0 where
@@ -18,7 +22,15 @@ pub record Paper : Type 0 where
   pub begin : Answer
   pub run : Answer
 
--- ---- papers that pass
+-- A paper that is played; a file read into buffers, and a program and values written to a buffer, with what the call
+-- must answer; a file with what sizes must give.
+pub data Sample : Type 0 where
+  played : Paper → Sample
+  reads : List ℕ → Parts → Reading → Sample
+  writes : Program → List ℕ → List ℕ → Writing → Sample
+  sized : List ℕ → Sizes → Sample
+
+-- ---- samples that pass
 
 abbrev pub same_list : List ℕ → List ℕ → Bool
 same_list [] [] = true
@@ -32,6 +44,20 @@ same_answer a b =
     && same_list a.state.values b.state.values && same_list a.state.marks b.state.marks
     && same_list a.state.counts b.state.counts
 
+abbrev pub same_reading : Reading → Reading → Bool
+same_reading a b =
+    eqb a.number b.number && eqb a.item b.item
+    && same_list a.buffers.exprs b.buffers.exprs && same_list a.buffers.nodes b.buffers.nodes
+    && same_list a.buffers.values b.buffers.values && same_list a.buffers.widths b.buffers.widths
+
+abbrev pub same_writing : Writing → Writing → Bool
+same_writing a b = eqb a.number b.number && eqb a.item b.item && same_list a.buffer b.buffer
+
+abbrev pub same_sizes : Sizes → Sizes → Bool
+same_sizes a b =
+    eqb a.nodes b.nodes && eqb a.exprs b.exprs
+    && eqb a.variables b.variables && eqb a.channels b.channels
+
 -- Begin is lent marks of 1 and counts of 9, which it must ignore, and leave where it refuses.
 abbrev pub lent : Program → List ℕ → State
 lent P values =
@@ -39,16 +65,22 @@ lent P values =
     record { values = values; marks = replicate n 1; counts = replicate n 9 }
 
 -- Run starts from what begin left.
-abbrev pub passes : Paper → Bool
-passes p =
+abbrev pub plays : Paper → Bool
+plays p =
     let begun_answer = begin_answer p.program (lent p.program p.values) in
     eqb (check_number p.program) p.check_number
     && eqb (fault_item p.program (check_number p.program)) p.check_item && same_answer begun_answer p.begin
     && same_answer (run_answer p.program p.cycles begun_answer.state p.book) p.run
 
-abbrev pub all_pass : List Paper → Bool
+abbrev pub passes : Sample → Bool
+passes (played p) = plays p
+passes (reads file buffers r) = same_reading (read_answer file buffers) r
+passes (writes P values buffer w) = same_writing (write_answer P values buffer) w
+passes (sized file c) = same_sizes (sizes_answer file) c
+
+abbrev pub all_pass : List Sample → Bool
 all_pass [] = true
-all_pass (p ∷ ps) = passes p && all_pass ps
+all_pass (s ∷ ss) = passes s && all_pass ss
 
 -- ---- how the list is written
 
@@ -73,15 +105,55 @@ gives q k vs ms cs =
     record { number = q; item = 0; worked = k; state = record { values = vs; marks = ms; counts = cs } }
 
 -- a program that check accepts: values, cycles, book, what begin gives, what run gives
-abbrev pub paper : Program → List ℕ → ℕ → List ℕ → Answer → Answer → Paper
-paper P vs n book b r =
-    record { program = P; values = vs; cycles = n; book = book; check_number = 0; check_item = 0; begin = b; run = r }
+abbrev pub paper : Program → List ℕ → ℕ → List ℕ → Answer → Answer → Sample
+paper P vs n book b r = played (record {
+  program = P;
+  values = vs;
+  cycles = n;
+  book = book;
+  check_number = 0;
+  check_item = 0;
+  begin = b;
+  run = r;
+})
 
 -- a program that all three calls refuse, with a number and an item, when one cycle is asked: nothing is written
-abbrev pub refused : Program → List ℕ → ℕ → ℕ → Paper
+abbrev pub refused : Program → List ℕ → ℕ → ℕ → Sample
 refused P vs q i =
     let a : Answer = record { number = q; item = i; worked = 0; state = lent P vs } in
-    record { program = P; values = vs; cycles = 1; book = 1 ∷ []; check_number = q; check_item = i; begin = a; run = a }
+    played (record {
+      program = P;
+      values = vs;
+      cycles = 1;
+      book = 1 ∷ [];
+      check_number = q;
+      check_item = i;
+      begin = a;
+      run = a;
+    })
+
+abbrev pub sizes : ℕ → ℕ → ℕ → ℕ → Sizes
+sizes n e v c = record { nodes = n; exprs = e; variables = v; channels = c }
+
+abbrev pub parts : List ℕ → List ℕ → List ℕ → List ℕ → Parts
+parts es ns vs ws = record { exprs = es; nodes = ns; values = vs; widths = ws }
+
+-- buffers of so many words, each 9
+abbrev pub buffers_of : ℕ → ℕ → ℕ → ℕ → Parts
+buffers_of e n v w = parts (replicate e 9) (replicate n 9) (replicate v 9) (replicate w 9)
+
+-- a file that is not read: number, item, and the buffers as they were
+abbrev pub unread : List ℕ → Parts → ℕ → ℕ → Sample
+unread file b q i = reads file b (record { number = q; item = i; buffers = b })
+
+-- a program and values that are not written into a buffer of so many bytes, each 7
+abbrev pub unwritten : Program → List ℕ → ℕ → ℕ → ℕ → Sample
+unwritten P vs n q i = writes P vs (replicate n 7) (record { number = q; item = i; buffer = replicate n 7 })
+
+-- a program and values that are written into a buffer with a byte to spare
+abbrev pub written : Program → List ℕ → List ℕ → Sample
+written P vs file =
+    writes P vs (replicate (length file) 5 ++ 7 ∷ []) (record { number = 0; item = 0; buffer = file ++ 7 ∷ [] })
 
 -- ---- the programs
 
@@ -212,10 +284,10 @@ abbrev pub counter_too_wide : Answer
 counter_too_wide = gives 6 0 (4096 ∷ []) (1 ∷ 1 ∷ []) (9 ∷ 9 ∷ [])
 
 -- four variables of value 0 and no channel: the expressions, nodes and widths are refused, by a number and an item
-abbrev pub refused_stores : List ℕ → List ℕ → List ℕ → ℕ → ℕ → Paper
+abbrev pub refused_stores : List ℕ → List ℕ → List ℕ → ℕ → ℕ → Sample
 refused_stores exprs nodes widths q i = refused (program_of exprs nodes widths 4 0) (0 ∷ 0 ∷ 0 ∷ 0 ∷ []) q i
 
-unfoldable pub samples : List Paper
+unfoldable pub samples : List Sample
 samples =
     -- a DLY takes one cycle, and then nothing is marked
     paper delay [] 5 (0 ∷ []) (gives 0 0 [] (1 ∷ []) (0 ∷ [])) (gives 0 1 [] (0 ∷ []) (0 ∷ []))
@@ -299,4 +371,37 @@ samples =
     ∷ refused_stores three_sources three_stores (16 ∷ 17 ∷ 0 ∷ []) 11 0
     -- a word too many after the expressions, of which two are faulty
     ∷ refused_stores (faulty_sources ++ 0 ∷ []) three_stores faulty_widths 1 0
+    -- request 3: two files, written and read, with a byte and words to spare
+    ∷ written delay [] delay_file
+    ∷ reads delay_file (buffers_of 1 6 1 1) (record {
+      number = 0;
+      item = 0;
+      buffers = parts (9 ∷ []) (node 8 65535 1 0 0 ++ 9 ∷ []) (9 ∷ []) (9 ∷ []);
+    })
+    ∷ written one_bit_input (300 ∷ 5 ∷ []) input_file
+    ∷ reads input_file (buffers_of 10 21 3 3) (record {
+      number = 0;
+      item = 0;
+      buffers = parts (one_bit_input.exprs ++ 9 ∷ []) (one_bit_input.nodes ++ 9 ∷ [])
+          (300 ∷ 5 ∷ 9 ∷ []) (1 ∷ 16 ∷ 9 ∷ []);
+    })
+    ∷ sized input_file (sizes 4 3 2 1)
+    -- bytes that are no file: a byte too many, another distance, two bytes in front; there are no sizes then
+    ∷ unread (input_file ++ 0 ∷ []) (buffers_of 9 20 2 2) 12 0
+    ∷ unread (input_exprs ++ input_nodes ++ input_values ++ input_widths ++ input_trailer 5) (buffers_of 9 20 2 2) 12 0
+    ∷ unread (0 ∷ 0 ∷ input_file) (buffers_of 9 20 2 2) 12 0
+    ∷ sized (0 ∷ 0 ∷ input_file) (sizes 0 0 0 0)
+    -- a file whose program is refused, and which has sizes; first the buffers are too short besides
+    ∷ unread faulty_file (buffers_of 8 20 2 2) 2 1
+    ∷ unread faulty_file (buffers_of 9 20 2 2) 2 1
+    ∷ sized faulty_file (sizes 4 3 2 1)
+    -- each buffer too short by one
+    ∷ unread input_file (buffers_of 8 20 2 2) 13 0
+    ∷ unread input_file (buffers_of 9 19 2 2) 13 0
+    ∷ unread input_file (buffers_of 9 20 1 2) 13 0
+    ∷ unread input_file (buffers_of 9 20 2 1) 13 0
+    ∷ unwritten one_bit_input (300 ∷ 5 ∷ []) 81 13 0
+    -- a value too many, with a buffer too short; and a program that is refused besides
+    ∷ unwritten one_bit_input (300 ∷ 5 ∷ 0 ∷ []) 81 5 0
+    ∷ unwritten (program_of faulty_sources three_stores (1 ∷ 16 ∷ []) 2 1) (300 ∷ 5 ∷ 0 ∷ []) 81 2 1
     ∷ []

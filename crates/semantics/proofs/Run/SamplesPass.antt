@@ -1,4 +1,4 @@
--- Every sample paper is answered as it was worked by hand, by computation with the definitions.
+-- Every sample is answered as it was worked by hand, by computation with the definitions.
 use mathlib.Core.Path.{◌≡◌, refl}
 use mathlib.Core.Bool.{true}
 use Rattle.semantics.specs.Numbers.{up_from, every, any, filter, find, distinct}
@@ -17,6 +17,9 @@ use Rattle.semantics.specs.Completion.{waits, channels_free, targets_apart, stor
 use Rattle.semantics.specs.Cycle.{are_active, new_values, visit, walked, cycle}
 use Rattle.semantics.specs.Run.{run}
 use Rattle.semantics.specs.Calls.{root_walk, begin_answer, run_answer}
+use Rattle.semantics.specs.Bytes.{bytes_of, words_of}
+use Rattle.semantics.specs.File.{file_of, file_ok}
+use Rattle.semantics.specs.FileCalls.{read_answer, write_answer, sizes_answer}
 use Rattle.semantics.specs.Samples.{samples, all_pass}
 
 pub samples_pass : all_pass samples ≡ true
@@ -25,5 +28,5 @@ unfolding samples up_from every any filter find distinct lowest_fault op_of kind
     width_ok widths_ok check_number fault_item start_below start_from forest statements tree_of lengths_ok marks_are_bits
     leaves_marked pairs_meet_in_par holds_mark live_children counts_right control_formed values_in_range well_formed enter
     leave_child leave_to waits channels_free targets_apart store are_active new_values visit walked cycle run root_walk
-    begin_answer run_answer
+    begin_answer run_answer bytes_of words_of file_of file_ok read_answer write_answer sizes_answer
 samples_pass = refl
