@@ -12,7 +12,7 @@ mod refusals;
 mod widths;
 
 pub use channels::{delayed_out, two_in_on_one_channel, waiting_in_is_no_store};
-pub use files::{counter_file, delay_file, files, input_file, PaperFile};
+pub use files::{counter_file, delay_file, files, input_file, refused_program, PaperFile};
 pub use first_fault::first_faults;
 pub use limits::{depth_32, depth_33, n_1024, n_1025};
 pub use loops::{

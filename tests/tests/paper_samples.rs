@@ -86,7 +86,11 @@ fn samples_written() {
 
 /// Reads into buffers with a word to spare; nothing is written.
 fn refused(file: &[u8]) -> (u16, u16) {
-    let before = lent(Sizes::of(&papers::input_file().program), 1);
+    refused_into(file, lent(Sizes::of(&papers::input_file().program), 1))
+}
+
+/// Reads into these buffers; nothing is written.
+fn refused_into(file: &[u8], before: Buffers) -> (u16, u16) {
     let mut buffers = before.clone();
     let answer = paper::read(file, &mut buffers);
     assert_eq!(buffers, before);
@@ -193,25 +197,27 @@ fn proved_refusals_of_read() {
     let mut faulty = file.to_vec();
     faulty[6] = 9;
     faulty[12] = 9;
+    let sizes = Sizes::of(&papers::input_file().program);
+    let refused = |file: &[u8]| refused_into(file, lent(sizes, 0));
     assert_eq!(refused(&[file, &[0]].concat()), (12, 0));
     assert_eq!(refused(&other_distance), (12, 0));
     assert_eq!(refused(&in_front), (12, 0));
     assert_eq!(paper::sizes(&in_front), Sizes::default());
-    // The list of expressions is lent a word too short besides.
-    let sizes = Sizes::of(&papers::input_file().program);
-    let mut buffers = lent(sizes, 0);
-    buffers.exprs.pop();
-    assert_eq!(parts(paper::read(&faulty, &mut buffers)), (2, 1));
+    // The list of expressions is lent a word too short besides; then every list is long enough.
+    let mut short = lent(sizes, 0);
+    short.exprs.pop();
+    assert_eq!(refused_into(&faulty, short), (2, 1));
+    assert_eq!(refused(&faulty), (2, 1));
     assert_eq!(paper::sizes(&faulty), sizes);
 }
 
-/// Those of write, of the same paper.
+/// Those of write, of the same paper and of a program that is refused.
 #[test]
 fn proved_refusals_of_write() {
     let mut sample = papers::input_file();
     assert_eq!(write_refused(&sample, &[300, 5], 81), (13, 0));
     assert_eq!(write_refused(&sample, &[300, 5, 0], 81), (5, 0));
-    sample.program.exprs[3] = 9;
+    sample.program = papers::refused_program();
     assert_eq!(write_refused(&sample, &[300, 5, 0], 81), (2, 1));
 }
 

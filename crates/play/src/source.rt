@@ -58,6 +58,9 @@ pub fn print_papers(out: Output) -> fmt::Result {
         "Other papers: ./play 3 plays paper 3, ./play 3 down in descending order, ./play 3 2,1 by the book",
     )?;
     out.say("2,1, and ./play FILE a paper from a file, as those in examples/.")?;
+    out.say(
+        "A file is a text or a file of words; ./play 3 --write FILE writes paper 3 to a new file of words.",
+    )?;
     for (paper, text) in (1..u16::MAX).zip(PAPERS.iter()).skip(1) {
         print_paper(out, paper, text)?;
     }

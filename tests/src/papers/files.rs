@@ -1,6 +1,7 @@
 //! Papers as files, their bytes written out by hand: a line for each record, then one for the values,
 //! one for the widths, and the trailer's counts and distances.
 
+use super::first_fault::{FAULTY_SOURCES, STORES};
 use super::widths::counter;
 use crate::expression::Expressions;
 use crate::program::Program;
@@ -86,5 +87,17 @@ pub fn input_file() -> PaperFile {
         program: Program::new(exprs, root, 2, 1).with_widths(&[1, 16]),
         values: vec![300, 5],
         bytes: &INPUT,
+    }
+}
+
+/// Of two faulty expressions, with nodes for more variables; variables and channels are as many as those
+/// of the input, with its widths.
+pub fn refused_program() -> Program {
+    Program {
+        exprs: FAULTY_SOURCES.concat(),
+        nodes: STORES.concat(),
+        widths: vec![1, 16],
+        vars: 2,
+        chans: 1,
     }
 }

@@ -7,10 +7,10 @@ use crate::program::Program;
 const SOURCES: [[u16; 3]; 3] = [[0, 1, 0], [1, 0, 0], [1, 3, 0]];
 
 /// Expression 1 is a variable that is not there, and expression 2 has itself for an operand.
-const FAULTY_SOURCES: [[u16; 3]; 3] = [[0, 1, 0], [1, 4, 0], [2, 2, 0]];
+pub(super) const FAULTY_SOURCES: [[u16; 3]; 3] = [[0, 1, 0], [1, 4, 0], [2, 2, 0]];
 
 /// The nodes.
-const STORES: [[u16; 5]; 4] = [
+pub(super) const STORES: [[u16; 5]; 4] = [
     [2, 65535, 4, 0, 0],
     [3, 0, 2, 0, 0],
     [3, 0, 3, 1, 1],
