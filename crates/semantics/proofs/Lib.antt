@@ -6,7 +6,7 @@ pub mod Lists
 pub mod Tree
 -- entering and leaving, on the flat lists and in the tree
 pub mod Walks
--- entries, stores and runs, where a book first goes wrong, and the sample papers
+-- entries, stores and runs, where a book first goes wrong, and the samples
 pub mod Run
 -- the order of the entries does not show: one cycle, all cycles, the order rule and the theorems beside it, among them
 -- those on widths

@@ -1,5 +1,5 @@
 -- Entries and runs: question 7 as crossing out marks, the equations of a run cycle by cycle, where a book
--- first goes wrong, and the sample papers.
+-- first goes wrong, and the samples.
 pub mod CrossOut
 pub mod EntriesLaws
 pub mod EntryCounts
