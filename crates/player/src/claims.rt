@@ -4,8 +4,8 @@ ghost use Rattle.std.specs.Prelude.{◌<◌};
 
 use program::ChanId;
 
-// How many slots there are: as many as channels, and as many as variables. Each method asks a slot below: a type of such
-// numbers would be made at each call, by a proof of the same: no plainer.
+// How many slots there are: as many as channels, and as many as variables, in arrays, for the player has no heap. Each method
+// asks a slot below: a type of such numbers would be made at each call, by a proof of the same: no plainer.
 const SLOTS: usize = 256;
 
 // The node that claimed last, and the stamp of its cycle. An Option of a node would have to be cleared in each slot before each

@@ -1,5 +1,6 @@
 // Question 7: each entry is crossed out of the lent marks. When all are crossed out no mark is left, for there are as many
-// entries as marks: so the marks are cleared for the walks.
+// entries as marks: so the marks are cleared for the walks. Each pass over the entries of a cycle, here and in channels.rt,
+// stores.rt and visits.rt, has its own loop: one for all would be handed what to do at an entry as a closure: no plainer.
 ghost use Rattle.std.specs.Prelude.{◌≡◌, ℕ, ◌<◌, length, get_or, set, take};
 ghost use Rattle.semantics.specs.State.{marked};
 ghost use Rattle.player.specs.Entries.{crossable, set_all};

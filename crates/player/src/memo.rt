@@ -6,6 +6,7 @@ ghost use Rattle.std.specs.Prelude.{◌≡◌, ℕ, ◌≤◌, ◌<◌, get_or};
 use program::VarId;
 use program::limits::{EXPRS_MAX, VARS_MAX};
 
+// Its arrays, like those of `Work` and `Claims`, are as long as any program needs, for the player has no heap.
 #[derive(Drop)]
 pub struct Memo {
     pub variables: [u16; VARS_MAX as usize],

@@ -1,8 +1,8 @@
 // The records of an accepted program, read without a test: the caller knows that there is such a record. With the readers of
-// `Program`, which test, most cycles took a fifth to three fifths more instructions. Indices are cast by `as`, which is proved to
-// lose nothing: `usize::from` would say no more. The lists are words, three to an expression and five to a node, as C lends them.
-// That an index is below the count is asked in each contract, here and wherever a node or an expression is handed over: a type
-// of such numbers would be made at each call, by a proof of the same: no plainer.
+// `Program`, which test, most cycles took a fifth to three fifths more instructions. Indices are cast by `as`, which is proved
+// to lose nothing: `usize::from` would say no more. The lists are words, three to an expression and five to a node, as C lends
+// them. That an index is below the count is asked in each contract, here and wherever a node, an expression or a variable is
+// handed over: a type of such numbers would be made at each call, by a proof of the same: no plainer.
 ghost use Rattle.std.specs.Prelude.{◌≡◌, ◌*◌, ◌<◌, get_or};
 ghost use Rattle.semantics.specs.Program.{expr_count, node_count, kind_at, op_at, p_at, q_at, parent_at, end_at, a_at, b_at};
 ghost use Rattle.program.specs.Accepted.{accepted_in};

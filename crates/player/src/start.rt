@@ -10,7 +10,8 @@ use crate::work::Work;
 use crate::{marks, records, widths};
 use program::{Accepted, VarId};
 
-// The values of the variables, at the first moment, at which nothing is worked.
+// The values of the variables, at the first moment, at which nothing is worked. So it is known of any expressions, and no
+// program is handed over to say of which.
 #[tactic(auto, using(crate::proofs::StartLaws::value_written))]
 pub fn fill_values(values: &[u16], work: &mut Work)
     requires values_len { length values.now ≤ 256 }

@@ -1,6 +1,6 @@
 // What entering and leaving nodes work in beside the lent lists. It has no program: each function would have to say that it is
 // still the same one. And what is known by both could be no invariant: begin works with no parents, and between a store and
-// the next moment the values of expressions are old.
+// the next moment the values of expressions are old. Its arrays are as long as any program needs, for the player has no heap.
 ghost use Rattle.std.specs.Prelude.{◌≡◌, ◌<◌};
 
 use crate::memo::Memo;
