@@ -4,9 +4,9 @@ use Rattle.std.proofs.Common.{add-one, length-set, lt-ltb, le-ltb}
 use Rattle.std.proofs.Math.Option.{Option as Parent, none, some}
 use Rattle.semantics.specs.Program.{node_count, kind_at, end_at, parent_at, a_at, is_leaf}
 use Rattle.semantics.specs.Program.Kind.{SEQ, PAR, IF, WHL}
-use Rattle.semantics.specs.Facts.{NodesOk, statement_at}
+use Rattle.semantics.specs.Facts.{NodesOk}
 use Rattle.semantics.specs.Parents.{parent}
-use Rattle.semantics.specs.Tree.{Stmt, children_from, statements}
+use Rattle.semantics.specs.Tree.{Stmt, children_from, statements, statement_at}
 use Rattle.semantics.specs.Walk.{Walk, mark, set_count, child_count, lower, finished_at_zero, loop_if_finished}
 use Rattle.semantics.specs.Walk.{lower_if_finished, then_enter, then_leave, enter, enter_in_turn, enter_each, leave}
 use Rattle.semantics.specs.Walk.Entered.{stays}

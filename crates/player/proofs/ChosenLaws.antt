@@ -2,9 +2,10 @@
 use Rattle.std.proofs.Common.{◌≡◌, ℕ, ◌+◌, ◌≤◌, ◌<◌, true, false, ◌∙◌, add-one, inl, inr}
 use Rattle.semantics.specs.Program.{Program, expr_count, node_count, kind_at, end_at, a_at}
 use Rattle.semantics.specs.Program.Kind.{IF, WHL}
+use Rattle.semantics.specs.Tree.{statement_at}
 use Rattle.semantics.specs.Walk.{Walk, enter}
 use Rattle.semantics.specs.Walk.Entered.{finished}
-use Rattle.semantics.specs.Facts.{NodesOk, statement_at}
+use Rattle.semantics.specs.Facts.{NodesOk}
 use Rattle.semantics.proofs.Walks.EnterLaws.{enter_if_true, enter_if_second, enter_if_missing, enter_whl_false, enter_whl_true}
 use Rattle.player.specs.declared.memo.Memo.{Memo}
 use Rattle.program.specs.Accepted.{accepted_in}

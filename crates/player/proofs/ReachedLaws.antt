@@ -1,9 +1,8 @@
 -- A loop that enters nodes, at one of its turns: what the rule comes to from there on, and what holds there.
 use Rattle.std.proofs.Common.{◌≡◌, ℕ, ◌<◌, Bool, List, Some, ap, ◌∙◌, subst}
 use Rattle.semantics.specs.Program.{Program}
-use Rattle.semantics.specs.Tree.{Stmts, children_from}
+use Rattle.semantics.specs.Tree.{Stmts, children_from, statement_at}
 use Rattle.semantics.specs.Walk.{Walk, Entered, enter}
-use Rattle.semantics.specs.Facts.{statement_at}
 use Rattle.player.specs.declared.work.Work.{Work}
 use Rattle.player.specs.Work.{KeptTables}
 use Rattle.player.specs.Walks.{walk_in, entering, holds_in, holds_now, passed, Walking, ButLast}

@@ -4,11 +4,11 @@ use lib.ListN.{length-replicate}
 use borrow.Author.Tests.{eqb-true}
 use Rattle.semantics.specs.Program.{Program, node_count}
 use Rattle.semantics.specs.Expressions.{is_true}
-use Rattle.semantics.specs.Tree.{Stmt}
+use Rattle.semantics.specs.Tree.{Stmt, statement_at}
 use Rattle.semantics.specs.State.{mark_count}
 use Rattle.semantics.specs.Walk.{Walk, walk_of, enter}
 use Rattle.semantics.specs.Calls.{root_walk}
-use Rattle.semantics.specs.Facts.{Accepted, statement_at}
+use Rattle.semantics.specs.Facts.{Accepted}
 use Rattle.semantics.proofs.Lists.Logic.{lt_or_le}
 use Rattle.semantics.proofs.Lists.NumberLaws.{zeros}
 use Rattle.semantics.proofs.Lists.ActiveLaws.{some_marked}

@@ -3,9 +3,10 @@ use Rattle.std.specs.Prelude.{◌≡◌, Bool, true, false, ◌⊎◌, cond, not
 use Rattle.semantics.specs.Program.{Program, Kind, node_count, kind_at, end_at}
 use Rattle.semantics.specs.Program.Kind.{SEQ, PAR, IF, WHL, LEAF, UNKNOWN}
 use Rattle.semantics.specs.State.{mark_count}
+use Rattle.semantics.specs.Tree.{statement_at}
 use Rattle.semantics.specs.Walk.{Walk, Entered, loop_if_finished, enter, leave}
 use Rattle.semantics.specs.Walk.Entered.{finished, stays}
-use Rattle.semantics.specs.Facts.{Accepted, statement_at}
+use Rattle.semantics.specs.Facts.{Accepted}
 use Rattle.player.specs.declared.memo.Memo.{Memo}
 use Rattle.player.specs.declared.work.Work.{Work}
 use Rattle.player.specs.declared.outcome.Outcome.{Outcome}

@@ -1,7 +1,7 @@
 -- What is proved of the rules: every end theorem with its statement in full. Each is proved in the file that its proof
 -- names; all names in the statements are definitions of specs/.
 use mathlib.Core.Path.{◌≡◌}
-use mathlib.Core.Bool.{true}
+use mathlib.Core.Bool.{Bool, true}
 use mathlib.Core.List.{List}
 use mathlib.Core.Logic.{◌↔◌, ◌≢◌}
 use mathlib.Core.Option.{none, some}
@@ -12,6 +12,7 @@ use Rattle.semantics.specs.Program.{Program, expr_count, node_count}
 use Rattle.semantics.specs.Check.{expr_ok, node_ok, references_ok, check_number, fault_item}
 use Rattle.semantics.specs.Widths.{width_at, width_ok}
 use Rattle.semantics.specs.State.{State, lengths_ok, well_formed}
+use Rattle.semantics.specs.Walk.{Walk, leave}
 use Rattle.semantics.specs.Completion.{stores, target, source, store}
 use Rattle.semantics.specs.Facts.{Ready, IsLowestFault, first_parts}
 use Rattle.semantics.specs.Run.{run}
@@ -20,6 +21,8 @@ use Rattle.semantics.specs.Book.{entries_asked, first_wrong}
 use Rattle.semantics.specs.Plain.{are_words, plain_check_number, plain_begin_answer, plain_run_answer}
 use Rattle.semantics.specs.File.{Parts, exprs_back, sizes_of, parts_of, program_from}
 use Rattle.semantics.specs.FileCalls.{filled, all_fit, all_filled, read_answer, write_answer, sizes_answer}
+use Rattle.semantics.specs.Climb.{turns, Climbs}
+use Rattle.semantics.specs.Climb.Turn.{leaves_next, over}
 use Rattle.semantics.specs.Samples.{samples, all_pass}
 use Rattle.semantics.proofs.Run.SamplesPass
 use Rattle.semantics.proofs.Order.OrderRule
@@ -28,6 +31,7 @@ use Rattle.semantics.proofs.Order.VariableWidths
 use Rattle.semantics.proofs.Order.OldPapers
 use Rattle.semantics.proofs.Order.FirstFault
 use Rattle.semantics.proofs.Files.RoundTrip
+use Rattle.semantics.proofs.Walks.ClimbLaws
 
 -- The order rule. For an accepted program and a state that questions 5 and 6 let by, two books give equal answers of
 -- run (number, item, cycles worked and the three lists) exactly when both first go wrong at the same cycle, or neither
@@ -151,6 +155,20 @@ pub read_then_write : (file : List ℕ) → are_bytes file ≡ true → (lent : 
     ≡ record { number = 0; item = 0; buffer = filled file buffer })
 read_then_write = RoundTrip.read_then_write
 
--- Check, begin, run, read, write and sizes answer every sample of specs/Samples as written there.
+-- The climb as a loop. Whatever the conditions are, a climb from a node of an accepted program is over after N turns,
+-- and what the turns have left then is what leaving the node gives.
+pub climb_in_turns : (P : Program) → check_number P ≡ 0
+    → (holds : ℕ → Bool) (i : ℕ) → i < node_count P.nodes → (w : Walk)
+    → turns holds P.nodes (node_count P.nodes) (leaves_next i w) ≡ over (leave holds P.nodes i w)
+climb_in_turns = ClimbLaws.climb_in_turns
+
+-- No climb takes more than N turns: where one is over after n turns and no fewer, n is at most N.
+pub climb_bound : (P : Program) → check_number P ≡ 0
+    → (holds : ℕ → Bool) (i : ℕ) → i < node_count P.nodes → (w : Walk)
+    → (n : ℕ) (r : Walk) → Climbs holds P.nodes i w n r → (n ≤ node_count P.nodes) × (r ≡ leave holds P.nodes i w)
+climb_bound = ClimbLaws.climb_bound
+
+-- Check, begin, run, read, write and sizes answer every sample of specs/Samples as written there, and the turns of a
+-- climb leave the nodes that are written there.
 pub samples_pass : all_pass samples ≡ true
 samples_pass = SamplesPass.samples_pass

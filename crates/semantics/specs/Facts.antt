@@ -1,14 +1,13 @@
 -- No rules: what the questions before the first cycle say when they are answered yes, as facts, and what a first fault
 -- is. Contracts of the code below the calls ask and give these; the theorem `first_fault` is said with the last, and
 -- `read_then_write` with the parts at the start of buffers.
-use Rattle.std.specs.Prelude.{◌≡◌, Bool, true, false, ◌&&◌, List, ℕ, suc, ◌-◌, ◌*◌, ◌%◌, ◌≤◌, ◌<◌, eqb, leb, length, get_or, take}
+use Rattle.std.specs.Prelude.{◌≡◌, Bool, true, false, ◌&&◌, List, ℕ, ◌-◌, ◌*◌, ◌%◌, ◌≤◌, ◌<◌, eqb, leb, length, get_or, take}
 use Rattle.semantics.specs.Numbers.{up_from, filter}
-use Rattle.semantics.specs.Program.{Program, Kind, expr_count, node_count, kind_at, a_at}
+use Rattle.semantics.specs.Program.{Program, Kind, expr_count, node_count, kind_at}
 use Rattle.semantics.specs.Program.Kind.{SEQ, PAR, IF, WHL, LEAF, UNKNOWN}
 use Rattle.semantics.specs.Parents.{is_child}
 use Rattle.semantics.specs.Widths.{width_at, width_ok}
 use Rattle.semantics.specs.Check.{expr_ok, node_ok, references_ok}
-use Rattle.semantics.specs.Tree.{Stmt, statement_of, children_from}
 use Rattle.semantics.specs.State.{State, lengths_ok, well_formed, holds_mark, live_children}
 use Rattle.semantics.specs.File.{Sizes, Parts}
 
@@ -48,12 +47,6 @@ pub record IsLowestFault (ok : ℕ → Bool) (n i : ℕ) : Type 0 where
   pub within : i < n
   pub fails : ok i ≡ false
   pub lower_pass : (j : ℕ) → j < i → ok j ≡ true
-
--- ---- the tree of a program
-
--- the statement of node i, with the statements of the nodes below it
-unfoldable pub statement_at : List ℕ → ℕ → Stmt
-statement_at nodes i = statement_of (kind_at nodes i) i (a_at nodes i) (children_from nodes (suc i) i)
 
 -- ---- a state that a cycle starts from
 

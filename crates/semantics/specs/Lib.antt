@@ -25,6 +25,8 @@ pub mod Calls
 pub mod Bytes
 pub mod File
 pub mod FileCalls
+-- request 4: the climb as a loop
+pub mod Climb
 -- "Sample papers", and the samples of request 3 with their files
 pub mod SampleFiles
 pub mod Samples

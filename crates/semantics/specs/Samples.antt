@@ -1,9 +1,13 @@
--- The papers of the section "Sample papers" that are to be proved, three more, and those of requests 1 to 3, as one
+-- The papers of the section "Sample papers" that are to be proved, three more, and those of requests 1 to 4, as one
 -- list. Each begins and then runs, or is read from a file or written to one, through all the questions, as the calls
--- do; `proofs/Run/SamplesPass.antt` has the theorem on the list.
+-- do, or is a climb, turn by turn; `proofs/Run/SamplesPass.antt` has the theorem on the list.
 use Rattle.std.specs.Prelude.{Bool, true, false, ◌&&◌, List, [], ◌∷◌, ◌++◌, ℕ, eqb, length, replicate}
 use Rattle.semantics.specs.Program.{Program, node_count}
+use Rattle.semantics.specs.Expressions.{bit, is_true}
 use Rattle.semantics.specs.State.{State}
+use Rattle.semantics.specs.Walk.{Walk}
+use Rattle.semantics.specs.Climb.{Turn, turn}
+use Rattle.semantics.specs.Climb.Turn.{leaves_next, over}
 use Rattle.semantics.specs.Check.{check_number, fault_item}
 use Rattle.semantics.specs.Calls.{Answer, begin_answer, run_answer}
 use Rattle.semantics.specs.File.{Sizes, Parts}
@@ -22,13 +26,24 @@ pub record Paper : Type 0 where
   pub begin : Answer
   pub run : Answer
 
+-- A climb: the values in which conditions are read, the node that the first turn leaves and those of the later turns,
+-- and the marks and counts before and after.
+pub record Climb : Type 0 where
+  pub program : Program
+  pub values : List ℕ
+  pub first : ℕ
+  pub later : List ℕ
+  pub before : Walk
+  pub after : Walk
+
 -- A paper that is played; a file read into buffers, and a program and values written to a buffer, with what the call
--- must answer; a file with what sizes must give.
+-- must answer; a file with what sizes must give; a climb.
 pub data Sample : Type 0 where
   played : Paper → Sample
   reads : List ℕ → Parts → Reading → Sample
   writes : Program → List ℕ → List ℕ → Writing → Sample
   sized : List ℕ → Sizes → Sample
+  climbs : Climb → Sample
 
 -- ---- samples that pass
 
@@ -72,11 +87,25 @@ plays p =
     && eqb (fault_item p.program (check_number p.program)) p.check_item && same_answer begun_answer p.begin
     && same_answer (run_answer p.program p.cycles begun_answer.state p.book) p.run
 
+abbrev pub same_walk : Walk → Walk → Bool
+same_walk v w =
+    same_list v.marks w.marks && same_list v.counts w.counts && eqb (bit v.looped) (bit w.looped)
+
+-- The climb goes on with the first node, and so on, and is over after the last.
+abbrev pub leaves_in_turn : (ℕ → Walk → Turn) → List ℕ → Turn → Walk → Bool
+leaves_in_turn turn_of [] (leaves_next j w) after = false
+leaves_in_turn turn_of [] (over w) after = same_walk w after
+leaves_in_turn turn_of (i ∷ is) (leaves_next j w) after = eqb i j && leaves_in_turn turn_of is (turn_of j w) after
+leaves_in_turn turn_of (i ∷ is) (over w) after = false
+
 abbrev pub passes : Sample → Bool
 passes (played p) = plays p
 passes (reads file buffers r) = same_reading (read_answer file buffers) r
 passes (writes P values buffer w) = same_writing (write_answer P values buffer) w
 passes (sized file c) = same_sizes (sizes_answer file) c
+passes (climbs c) =
+    let turn_of = turn (is_true c.program c.values) c.program.nodes in
+    leaves_in_turn turn_of c.later (turn_of c.first c.before) c.after
 
 abbrev pub all_pass : List Sample → Bool
 all_pass [] = true
@@ -154,6 +183,22 @@ unwritten P vs n q i = writes P vs (replicate n 7) (record { number = q; item = 
 abbrev pub written : Program → List ℕ → List ℕ → Sample
 written P vs file =
     writes P vs (replicate (length file) 5 ++ 7 ∷ []) (record { number = 0; item = 0; buffer = file ++ 7 ∷ [] })
+
+-- marks and counts, where no zero-time loop was met
+abbrev pub walk_of_lists : List ℕ → List ℕ → Walk
+walk_of_lists ms cs = record { marks = ms; counts = cs; looped = false }
+
+-- a climb in which no mark stands at first: the values, the first node that is left, those left after it, the counts
+-- before, and the marks and counts after
+abbrev pub climb : Program → List ℕ → ℕ → List ℕ → List ℕ → Walk → Sample
+climb P vs i later counts after = climbs (record {
+  program = P;
+  values = vs;
+  first = i;
+  later = later;
+  before = walk_of_lists (replicate (node_count P.nodes) 0) counts;
+  after = after;
+})
 
 -- ---- the programs
 
@@ -258,6 +303,24 @@ faulty_nodes = node 2 65535 4 0 0 ++ node 3 0 2 4 0 ++ node 3 1 3 1 3 ++ node 99
 abbrev pub faulty_widths : List ℕ
 faulty_widths = 16 ∷ 1 ∷ 17 ∷ 0 ∷ []
 
+-- SEQ{DLY; IF 0 {DLY}; WHL 0 {DLY}; v0:=1}
+abbrev pub skipped : Program
+skipped =
+    program (expr 0 0 0 ++ expr 0 1 0)
+    (node 1 65535 7 0 0 ++ node 8 0 2 0 0 ++ node 6 0 4 0 0 ++ node 8 2 4 0 0 ++ node 7 0 6 0 0 ++ node 8 4 6 0 0
+    ++ node 3 0 7 0 1) 1 0
+
+-- SEQ{SEQ{SEQ{DLY}}}
+abbrev pub chain : Program
+chain = program [] (node 1 65535 4 0 0 ++ node 1 0 4 0 0 ++ node 1 1 4 0 0 ++ node 8 2 4 0 0) 0 0
+
+-- WHL 1 {SEQ{PAR{DLY; IF 1 {DLY}}; IF 0 {DLY}}}
+abbrev pub thread_loop : Program
+thread_loop =
+    program (expr 0 1 0 ++ expr 0 0 0)
+    (node 7 65535 8 0 0 ++ node 1 0 8 0 0 ++ node 2 1 6 0 0 ++ node 8 2 4 0 0 ++ node 6 2 6 0 0 ++ node 8 4 6 0 0
+    ++ node 6 1 8 1 0 ++ node 8 6 8 0 0) 0 0
+
 -- ---- the list
 
 abbrev pub swap_begun : Answer
@@ -282,6 +345,16 @@ counter_begun v = gives 0 0 (v ∷ []) (0 ∷ 1 ∷ []) (0 ∷ 0 ∷ [])
 -- nothing is written: the lists are those that begin is lent
 abbrev pub counter_too_wide : Answer
 counter_too_wide = gives 6 0 (4096 ∷ []) (1 ∷ 1 ∷ []) (9 ∷ 9 ∷ [])
+
+abbrev pub skipped_begun : Answer
+skipped_begun = gives 0 0 (0 ∷ []) (0 ∷ 1 ∷ 0 ∷ 0 ∷ 0 ∷ 0 ∷ 0 ∷ []) (replicate 7 0)
+
+abbrev pub loop_marks : List ℕ
+loop_marks = 0 ∷ 0 ∷ 0 ∷ 1 ∷ 0 ∷ 1 ∷ 0 ∷ 0 ∷ []
+
+-- so many threads of the PAR are at work
+abbrev pub loop_counts : ℕ → List ℕ
+loop_counts n = 0 ∷ 0 ∷ n ∷ 0 ∷ 0 ∷ 0 ∷ 0 ∷ 0 ∷ []
 
 -- four variables of value 0 and no channel: the expressions, nodes and widths are refused, by a number and an item
 abbrev pub refused_stores : List ℕ → List ℕ → List ℕ → ℕ → ℕ → Sample
@@ -404,4 +477,24 @@ samples =
     -- a value too many, with a buffer too short; and a program that is refused besides
     ∷ unwritten one_bit_input (300 ∷ 5 ∷ 0 ∷ []) 81 5 0
     ∷ unwritten (program_of faulty_sources three_stores (1 ∷ 16 ∷ []) 2 1) (300 ∷ 5 ∷ 0 ∷ []) 81 2 1
+    -- request 4: next children that finish at once are left in their turns, up to one that stays
+    ∷ paper skipped (0 ∷ []) 1 (1 ∷ []) skipped_begun
+    (gives 0 1 (0 ∷ []) (0 ∷ 0 ∷ 0 ∷ 0 ∷ 0 ∷ 0 ∷ 1 ∷ []) (replicate 7 0))
+    ∷ climb skipped (0 ∷ []) 1 (2 ∷ 4 ∷ []) (replicate 7 0)
+    (walk_of_lists (0 ∷ 0 ∷ 0 ∷ 0 ∷ 0 ∷ 0 ∷ 1 ∷ []) (replicate 7 0))
+    ∷ paper skipped (0 ∷ []) 5 (1 ∷ 6 ∷ []) skipped_begun (gives 0 2 (1 ∷ []) (replicate 7 0) (replicate 7 0))
+    ∷ climb skipped (1 ∷ []) 6 (0 ∷ []) (replicate 7 0) (walk_of_lists (replicate 7 0) (replicate 7 0))
+    -- as many turns as there are nodes
+    ∷ paper chain [] 5 (3 ∷ []) (gives 0 0 [] (0 ∷ 0 ∷ 0 ∷ 1 ∷ []) (replicate 4 0))
+    (gives 0 1 [] (replicate 4 0) (replicate 4 0))
+    ∷ climb chain [] 3 (2 ∷ 1 ∷ 0 ∷ []) (replicate 4 0) (walk_of_lists (replicate 4 0) (replicate 4 0))
+    -- two threads, by a book in either order: the second climb leaves the PAR, and the loop begins again
+    ∷ paper thread_loop [] 1 (3 ∷ 5 ∷ []) (gives 0 0 [] loop_marks (loop_counts 2))
+    (gives 0 1 [] loop_marks (loop_counts 2))
+    ∷ climb thread_loop [] 3 [] (loop_counts 2) (walk_of_lists (replicate 8 0) (loop_counts 1))
+    ∷ climb thread_loop [] 5 (4 ∷ 2 ∷ 6 ∷ 1 ∷ []) (loop_counts 1) (walk_of_lists loop_marks (loop_counts 2))
+    ∷ paper thread_loop [] 1 (5 ∷ 3 ∷ []) (gives 0 0 [] loop_marks (loop_counts 2))
+    (gives 0 1 [] loop_marks (loop_counts 2))
+    ∷ climb thread_loop [] 5 (4 ∷ []) (loop_counts 2) (walk_of_lists (replicate 8 0) (loop_counts 1))
+    ∷ climb thread_loop [] 3 (2 ∷ 6 ∷ 1 ∷ []) (loop_counts 1) (walk_of_lists loop_marks (loop_counts 2))
     ∷ []

@@ -68,6 +68,10 @@ statements nodes i end = start_below end (forest nodes (node_count nodes - i) i)
 abbrev pub children_from : List ℕ → ℕ → ℕ → Stmts
 children_from nodes j h = statements nodes j (end_at nodes h)
 
+-- The statement of node i.
+unfoldable pub statement_at : List ℕ → ℕ → Stmt
+statement_at nodes i = statement_of (kind_at nodes i) i (a_at nodes i) (children_from nodes (suc i) i)
+
 -- An empty list has no node 0: question 1 refuses it.
 abbrev pub root : Stmts → Stmt
 root nil = leaf 0

@@ -10,12 +10,12 @@ use native.Mathlib.Omega.{arith}
 use borrow.Author.Tests.{lt-ltb, le-ltb}
 use Rattle.semantics.specs.Program.{Kind, node_count, kind_at, end_at, a_at, is_leaf}
 use Rattle.semantics.specs.Program.Kind.{SEQ, PAR, IF, WHL, LEAF, UNKNOWN}
-use Rattle.semantics.specs.Tree.{Stmt, Stmts, start, start_below, first, others, forest, statements, statement_of}
+use Rattle.semantics.specs.Tree.{Stmt, Stmts, start, start_below, first, others, forest, statements, statement_of, statement_at}
 use Rattle.semantics.specs.Tree.Stmt.{leaf}
 use Rattle.semantics.specs.Tree.Stmts.{nil, cons}
 use Rattle.semantics.specs.Walk.{Walk, then_enter, lower_if_finished, child_count, enter, enter_in_turn, enter_each}
 use Rattle.semantics.specs.Walk.Entered.{finished}
-use Rattle.semantics.specs.Facts.{NodesOk, statement_at}
+use Rattle.semantics.specs.Facts.{NodesOk}
 use Rattle.semantics.proofs.Lists.Logic.{lt_or_le}
 use Rattle.semantics.proofs.Tree.NodeLaws.{end_after}
 use Rattle.semantics.proofs.Tree.TreeOfList.{start_placed, statement_at_lem, from_at}

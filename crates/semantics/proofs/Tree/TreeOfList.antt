@@ -11,11 +11,11 @@ use borrow.Author.Tests.{lt-ltb, le-ltb}
 use Rattle.semantics.specs.Program.{Program, Kind, node_count, kind_at, end_at, a_at, is_leaf}
 use Rattle.semantics.specs.Program.Kind.{SEQ, PAR, IF, WHL, LEAF, UNKNOWN}
 use Rattle.semantics.specs.Check.{kind_ok, check_number}
-use Rattle.semantics.specs.Tree.{Stmt, Stmts, start, start_below, start_from, first, others}
+use Rattle.semantics.specs.Tree.{Stmt, Stmts, start, start_below, start_from, first, others, statement_at}
 use Rattle.semantics.specs.Tree.{statement_of, forest, statements, root, tree_of}
 use Rattle.semantics.specs.Tree.Stmt.{leaf, seq, par, ife, whl}
 use Rattle.semantics.specs.Tree.Stmts.{nil, cons}
-use Rattle.semantics.specs.Facts.{NodesOk, statement_at}
+use Rattle.semantics.specs.Facts.{NodesOk}
 use Rattle.semantics.proofs.Lists.Logic.{lt_or_le}
 use Rattle.semantics.proofs.Tree.Positions.{end_of, ends_of, Placed, PlacedIn}
 use Rattle.semantics.proofs.Tree.Agreement.{Agrees, AgreesIn, Under, under_first}

@@ -9,12 +9,12 @@ use native.Mathlib.Nat.{le_refl}
 use native.Mathlib.Omega.{arith}
 use Rattle.semantics.specs.Program.{Kind, node_count, kind_at, end_at, a_at, is_leaf}
 use Rattle.semantics.specs.Program.Kind.{SEQ, PAR, IF, WHL}
-use Rattle.semantics.specs.Tree.{Stmt, Stmts, statements, statement_of}
+use Rattle.semantics.specs.Tree.{Stmt, Stmts, statements, statement_of, statement_at}
 use Rattle.semantics.specs.Tree.Stmt.{ife}
 use Rattle.semantics.specs.Walk.{Walk, Entered, mark, set_count, then_enter, finished_at_zero, loop_if_finished}
 use Rattle.semantics.specs.Walk.{child_count, enter, enter_in_turn, enter_each}
 use Rattle.semantics.specs.Walk.Entered.{finished, stays}
-use Rattle.semantics.specs.Facts.{NodesOk, statement_at}
+use Rattle.semantics.specs.Facts.{NodesOk}
 use Rattle.semantics.proofs.Tree.NodeLaws.{end_after, end_fits}
 use Rattle.semantics.proofs.Tree.StatementLaws.{statement_kind, statement_leaf, first_statements, others_statements}
 use Rattle.semantics.proofs.Tree.StatementLaws.{statements_none, enter_in_turn-none, enter_in_turn-more}

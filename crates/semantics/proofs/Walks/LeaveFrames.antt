@@ -12,12 +12,12 @@ use Rattle.semantics.specs.Program.{Program, node_count, kind_at, end_at, a_at, 
 use Rattle.semantics.specs.Program.Kind.{SEQ, PAR, IF, WHL}
 use Rattle.semantics.specs.Parents.{parent}
 use Rattle.semantics.specs.Check.{check_number}
-use Rattle.semantics.specs.Tree.{Stmt, Stmts, statements, tree_of}
+use Rattle.semantics.specs.Tree.{Stmt, Stmts, statements, tree_of, statement_at}
 use Rattle.semantics.specs.Tree.Stmt.{leaf, seq, par, ife, whl}
 use Rattle.semantics.specs.Tree.Stmts.{nil, cons}
 use Rattle.semantics.specs.Walk.{Walk, lower, finished_at_zero, loop_if_finished, then_leave, child_count}
 use Rattle.semantics.specs.Walk.{enter, enter_in_turn, leave_child, leave}
-use Rattle.semantics.specs.Facts.{NodesOk, statement_at}
+use Rattle.semantics.specs.Facts.{NodesOk}
 use Rattle.semantics.proofs.Tree.Positions.{Frame, LeafOf, LeafIn, number, unwind, frames_at, frames_in_turn, frames_each}
 use Rattle.semantics.proofs.Tree.Positions.{number_in}
 use Rattle.semantics.proofs.Tree.Positions.Frame.{in_seq, in_par, in_if, in_whl}

@@ -14,10 +14,11 @@ use borrow.Author.Tests.{lt-ltb, le-ltb}
 use Rattle.semantics.specs.Program.{Kind, node_count, kind_at, end_at, a_at}
 use Rattle.semantics.specs.Program.Kind.{SEQ, PAR, IF, WHL}
 use Rattle.semantics.specs.Parents.{parent}
+use Rattle.semantics.specs.Tree.{statement_at}
 use Rattle.semantics.specs.Walk.{Walk, Entered, lower, then_enter, finished_at_zero, loop_if_finished, then_leave}
 use Rattle.semantics.specs.Walk.{enter, leave_child, leave_to, leave}
 use Rattle.semantics.specs.Walk.Entered.{finished, stays}
-use Rattle.semantics.specs.Facts.{NodesOk, statement_at}
+use Rattle.semantics.specs.Facts.{NodesOk}
 use Rattle.semantics.proofs.Lists.Logic.{lt_or_le}
 use Rattle.semantics.proofs.Lists.ParentLaws.{is_parent, ancestors_parent, ancestors_none}
 use Rattle.semantics.proofs.Tree.NodeLaws.{root_parent, end_fits, next_sibling}

@@ -4,9 +4,10 @@ use Rattle.std.proofs.Common.{◌≡◌, ℕ, ◌≤◌, List, length, take, dro
 use Rattle.std.proofs.lemmas.List.{take-replicate, length-take-le}
 use Rattle.std.proofs.Math.Seq.{take_at}
 use Rattle.semantics.specs.Program.{Program, node_count}
+use Rattle.semantics.specs.Tree.{statement_at}
 use Rattle.semantics.specs.Walk.{enter}
 use Rattle.semantics.specs.Calls.{root_walk}
-use Rattle.semantics.specs.Facts.{Accepted, statement_at}
+use Rattle.semantics.specs.Facts.{Accepted}
 use Rattle.player.specs.declared.work.Work.{Work}
 use Rattle.player.specs.declared.outcome.Outcome.{Outcome}
 use Rattle.player.specs.Memo.{Known, Holds}
