@@ -1,6 +1,6 @@
 -- What an accepted program says of its nodes, and what entering and leaving them comes to.
 use Rattle.std.proofs.Common.{◌≡◌, ℕ, suc, ◌<◌, ◌≤◌, ◌+◌, ◌∙◌, Bool, true, false, List, refl, sym, ap, subst, arith}
-use Rattle.std.proofs.Common.{add-one, length-set, lt-ltb, le-ltb}
+use Rattle.std.proofs.Common.{add-one, length-set}
 use Rattle.std.proofs.Math.Option.{Option as Parent, none, some}
 use Rattle.semantics.specs.Program.{node_count, kind_at, end_at, parent_at, a_at, is_leaf}
 use Rattle.semantics.specs.Program.Kind.{SEQ, PAR, IF, WHL}
@@ -8,16 +8,18 @@ use Rattle.semantics.specs.Facts.{NodesOk}
 use Rattle.semantics.specs.Parents.{parent}
 use Rattle.semantics.specs.Tree.{Stmt, children_from, statements, statement_at}
 use Rattle.semantics.specs.Walk.{Walk, mark, set_count, child_count, lower, finished_at_zero, loop_if_finished}
-use Rattle.semantics.specs.Walk.{lower_if_finished, then_enter, then_leave, enter, enter_in_turn, enter_each, leave}
+use Rattle.semantics.specs.Walk.{lower_if_finished, then_enter, enter, enter_in_turn, enter_each}
 use Rattle.semantics.specs.Walk.Entered.{stays}
+use Rattle.semantics.specs.Climb.{next_if_finished, turn}
+use Rattle.semantics.specs.Climb.Turn.{leaves_next, over}
 use Rattle.semantics.proofs.Lists.ParentLaws.{is_parent}
 use Rattle.semantics.proofs.Tree.NodeLaws.{Placement, facts, end_after, end_fits, end_within_lem}
 use Rattle.semantics.proofs.Tree.ChildLaws.{some_child, whl_only_child}
 use Rattle.semantics.proofs.Tree.StatementLaws.{child_count-none, child_count-more}
 use Rattle.semantics.proofs.Tree.StatementLaws.{enter_in_turn-more, enter_each-none, enter_each-more}
 use Rattle.semantics.proofs.Walks.EnterLaws.{enter_leaf, enter_in_turn-one, enter_seq, enter_par}
-use Rattle.semantics.proofs.Walks.LeaveLaws.{leave_none, leave_seq, leave_par, leave_if, leave_whl_true}
-use Rattle.semantics.proofs.Walks.LeaveLaws.{leave_whl_false}
+use Rattle.semantics.proofs.Walks.ClimbLaws.{turn_none, turn_seq_next, turn_seq_last, turn_par, turn_if}
+use Rattle.semantics.proofs.Walks.ClimbLaws.{turn_whl_true, turn_whl_false}
 use Rattle.program.specs.Accepted.{accepted_in}
 use Rattle.program.specs.declared.accepted.Accepted.{Accepted as AcceptedCode}
 use Rattle.player.specs.declared.memo.Memo.{Memo}
@@ -149,10 +151,10 @@ module _ (program : AcceptedCode) where
       pub each_none : end_at nodes h ≤ j → enter_each holds h (children_from nodes j h) w ≡ w
       each_none n = enter_each-none nodes ok holds j (end_at nodes h) w h n
 
-    -- leaving node i, by the kind of its parent: the next child is entered, or the parent ends with the child
+    -- a turn that leaves node i, by the kind of its parent: a child is entered, or the parent is left next
     module _ (i : ℕ) (w : Walk) (l : i < node_count nodes) where
-      pub root_ends : parent_at nodes i ≡ 65535 → leave holds nodes i w ≡ w
-      root_ends e = leave_none nodes holds i w (no_parent_read i l e).1
+      pub root_ends : parent_at nodes i ≡ 65535 → turn holds nodes i w ≡ over w
+      root_ends e = turn_none holds nodes i w (no_parent_read i l e).1
 
       -- the parent by the node's record
       abbrev h : ℕ
@@ -160,33 +162,30 @@ module _ (program : AcceptedCode) where
 
       module _ (p : parent nodes i ≡ some h) where
         pub seq_goes_on : kind_at nodes h ≡ SEQ → end_at nodes i < end_at nodes h
-            → leave holds nodes i w
-            ≡ then_leave (enter holds (statement_at nodes (end_at nodes i)) w) (leave holds nodes (end_at nodes i))
-        seq_goes_on k n = leave_seq nodes ok holds i h w l p k ∙ rw (lt-ltb (end_at nodes i) (end_at nodes h) n)
+            → turn holds nodes i w
+            ≡ next_if_finished (end_at nodes i) (enter holds (statement_at nodes (end_at nodes i)) w)
+        seq_goes_on k n = turn_seq_next holds nodes i h w p k n
 
-        pub seq_ends : kind_at nodes h ≡ SEQ → end_at nodes h ≤ end_at nodes i
-            → leave holds nodes i w ≡ leave holds nodes h w
-        seq_ends k n = leave_seq nodes ok holds i h w l p k ∙ rw (le-ltb (end_at nodes i) (end_at nodes h) n)
+        pub seq_ends : kind_at nodes h ≡ SEQ → end_at nodes h ≤ end_at nodes i → turn holds nodes i w ≡ leaves_next h w
+        seq_ends k n = turn_seq_last holds nodes i h w p k n
 
         pub par_ends : kind_at nodes h ≡ PAR
-            → leave holds nodes i w ≡ then_leave (finished_at_zero h (lower h w)) (leave holds nodes h)
-        par_ends k = leave_par nodes ok holds i h w l p k
+            → turn holds nodes i w ≡ next_if_finished h (finished_at_zero h (lower h w))
+        par_ends k = turn_par holds nodes i h w p k
 
-        pub if_ends : kind_at nodes h ≡ IF → leave holds nodes i w ≡ leave holds nodes h w
-        if_ends k = leave_if nodes ok holds i h w l p k
+        pub if_ends : kind_at nodes h ≡ IF → turn holds nodes i w ≡ leaves_next h w
+        if_ends k = turn_if holds nodes i h w p k
 
-        pub whl_ends : kind_at nodes h ≡ WHL → holds (a_at nodes h) ≡ false
-            → leave holds nodes i w ≡ leave holds nodes h w
-        whl_ends k f = leave_whl_false nodes ok holds i h w l p k f
+        pub whl_ends : kind_at nodes h ≡ WHL → holds (a_at nodes h) ≡ false → turn holds nodes i w ≡ leaves_next h w
+        whl_ends k f = turn_whl_false holds nodes i h w p k f
 
         pub whl_goes_on : kind_at nodes h ≡ WHL → holds (a_at nodes h) ≡ true
-            → leave holds nodes i w
-            ≡ then_leave (loop_if_finished (enter holds (statement_at nodes (h + 1)) w)) (leave holds nodes h)
+            → turn holds nodes i w ≡ next_if_finished h (loop_if_finished (enter holds (statement_at nodes (h + 1)) w))
         whl_goes_on k t =
             let lower = (is_parent nodes i h p).lower in
             let only = whl_only_child nodes ok i h (omega arith) k p in
-            leave_whl_true nodes ok holds i h w l p k t
-            ∙ ap (λ (j : ℕ). then_leave (loop_if_finished (enter holds (statement_at nodes j) w)) (leave holds nodes h))
+            turn_whl_true holds nodes i h w p k t
+            ∙ ap (λ (j : ℕ). next_if_finished h (loop_if_finished (enter holds (statement_at nodes j) w)))
             (only ∙ sym (add-one h))
 
 pub ruleset node_ends = (nodes_fit, end_later, end_inside)

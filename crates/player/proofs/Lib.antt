@@ -3,6 +3,7 @@ pub mod CycleLaws
 pub mod AcceptedLaws
 pub mod MemoLaws
 pub mod WalkingLaws
+pub mod TurnLaws
 pub mod RunAnswerLaws
 pub mod FirstNoLaws
 pub mod BeginLaws

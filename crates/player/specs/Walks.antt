@@ -1,11 +1,13 @@
 -- The rules' walk as the code holds it: marks and counts in lent lists, the flag in `work`.
-use Rattle.std.specs.Prelude.{◌≡◌, Bool, true, false, ◌⊎◌, cond, not, List, ℕ, Option, Some, None, MatchOption, IfSome, ◌+◌, ◌-◌, ◌*◌, ◌<◌, eqb, length, get_or, set}
-use Rattle.semantics.specs.Program.{Program, Kind, node_count, kind_at, end_at}
+use Rattle.std.specs.Prelude.{◌≡◌, Bool, true, false, ◌⊎◌, cond, not, List, ℕ, Option, Some, None, MatchOption, ◌-◌, ◌<◌, eqb, length, get_or, set}
+use Rattle.semantics.specs.Program.{Program, Kind, node_count, kind_at}
 use Rattle.semantics.specs.Program.Kind.{SEQ, PAR, IF, WHL, LEAF, UNKNOWN}
 use Rattle.semantics.specs.State.{mark_count}
 use Rattle.semantics.specs.Tree.{statement_at}
-use Rattle.semantics.specs.Walk.{Walk, Entered, loop_if_finished, enter, leave}
+use Rattle.semantics.specs.Walk.{Walk, Entered, loop_if_finished, enter}
 use Rattle.semantics.specs.Walk.Entered.{finished, stays}
+use Rattle.semantics.specs.Climb.{Turn, turn}
+use Rattle.semantics.specs.Climb.Turn.{leaves_next, over}
 use Rattle.semantics.specs.Facts.{Accepted}
 use Rattle.player.specs.declared.memo.Memo.{Memo}
 use Rattle.player.specs.declared.work.Work.{Work}
@@ -86,21 +88,15 @@ pub record ButLast (P : Program) (before : Work) (h : ℕ) (rule : Entered) (las
 unfoldable pub passed : Bool → Entered → Entered
 passed looping r = cond looping (loop_if_finished r) r
 
--- Leaving goes on with a node, or is over.
-abbrev pub leave_next : (ℕ → Bool) → List ℕ → Option ℕ → Walk → Walk
-leave_next holds nodes None w = w
-leave_next holds nodes (Some i) w = leave holds nodes i w
+-- What a turn comes to, where it gives the node that is left next, or none.
+abbrev pub turn_to : Option ℕ → Walk → Turn
+turn_to None w = over w
+turn_to (Some i) w = leaves_next i w
 
--- What falls from turn to turn of a climb.
-abbrev pub height : List ℕ → ℕ → ℕ
-height nodes i = 2048 * (1024 - end_at nodes i) + i
-
--- Node i was left: the next turn leaves node r, or the climb is over.
+-- The rules' turn, which leaves node i, gives node r and leaves these lists.
 pub record Turned (P : Program) (before : Work) (i : ℕ) (w : Walk) (r : Option ℕ) (marks counts : List ℕ) (work : Work)
     : Type 0 where
-  pub right : leave (holds_now P before.memo) P.nodes i w
-      ≡ leave_next (holds_now P before.memo) P.nodes r (walk_in marks counts work)
-  pub next : IfSome r (λ (n : ℕ). (n < node_count P.nodes) × (height P.nodes n < height P.nodes i))
+  pub right : turn (holds_now P before.memo) P.nodes i w ≡ turn_to r (walk_in marks counts work)
   pub walking : Walking P marks counts work
   pub kept : KeptTables before work
 

@@ -1,12 +1,13 @@
 // Leaving a node, a climb: each turn leaves one node. `Climbing` is said of a program and a `Work`, `Walking` of the lent lists
 // besides: none has the others, so that no field says it. The lists stay parameters beside `work`: of a struct that holds a
 // `&mut` each function would have to say that it is still the same list.
-ghost use Rattle.std.specs.Prelude.{◌≡◌, ◌<◌, ℕ};
+ghost use Rattle.std.specs.Prelude.{◌≡◌, ◌<◌, ◌≤◌, ℕ};
 ghost use Rattle.std.proofs.Math.Option.{some};
 ghost use Rattle.semantics.specs.Program.{node_count, kind_at};
 ghost use Rattle.semantics.specs.Program.Kind.{SEQ};
 ghost use Rattle.semantics.specs.Parents.{parent};
 ghost use Rattle.semantics.specs.Walk.{leave};
+ghost use Rattle.semantics.specs.Climb.{Climbs};
 ghost use Rattle.program.specs.Accepted.{accepted_in};
 ghost use Rattle.player.specs.Work.{Climbing};
 ghost use Rattle.player.specs.Walks.{walk_in, holds_now, Walking, Walks, Turned, Branches};
@@ -96,17 +97,31 @@ fn turn(
     }
 }
 
-// Leave node i. By `successors` the step would be a closure that writes the lent lists: no plainer.
-pub fn leave(program: &Accepted, work: &mut Work, marks: &mut [u8], counts: &mut [u16], i: u16)
+// Leave node i. Gives the number of turns, which is N at most: after each turn the node that is left next has a later place in
+// the order in which a walk of the whole tree leaves the nodes. By `successors` the step would be a closure that writes the lent
+// lists: no plainer.
+pub fn leave(
+    program: &Accepted,
+    work: &mut Work,
+    marks: &mut [u8],
+    counts: &mut [u16],
+    i: u16,
+) -> u16
     requires walking { Walking (accepted_in program.now) marks.old counts.old work.old }
     requires i_bound { (i < node_count (accepted_in program.now).nodes) × Climbing (accepted_in program.now).nodes work.old }
-    ensures { Walks (accepted_in program.now) work.old
+    ensures walks { Walks (accepted_in program.now) work.old
         (leave (holds_now (accepted_in program.now) work.old.memo) (accepted_in program.now).nodes i
         (walk_in marks.old counts.old work.old))
         marks.new counts.new work.new }
+    ensures turns { Climbs (holds_now (accepted_in program.now) work.old.memo) (accepted_in program.now).nodes i
+        (walk_in marks.old counts.old work.old) result (walk_in marks.new counts.new work.new) }
+    ensures few { result ≤ node_count (accepted_in program.now).nodes }
 {
     let mut next = Some(i);
+    let mut turns = 0;
     while let Some(node) = next {
         next = turn(program, work, marks, counts, node);
+        turns += 1;
     }
+    turns
 }

@@ -65,6 +65,33 @@ module _ (holds : ℕ → Bool) (nodes : List ℕ) where
     unfolding turn_under
     turn_whl_false k f = by_kind WHL k ∙ rw f
 
+-- ---- turns one after another, in any list
+module _ (holds : ℕ → Bool) (nodes : List ℕ) (t : Turn) where
+  -- no fewer than n turns are enough
+  abbrev pub Going : ℕ → Type 0
+  Going n = (m : ℕ) → m < n → is_over (turns holds nodes m t) ≡ false
+
+  pub turns_none : turns holds nodes 0 t ≡ t
+  unfolding turns
+  turns_none = refl
+
+  pub turns_more : (n j : ℕ) (v : Walk) → turns holds nodes n t ≡ leaves_next j v
+      → turns holds nodes (suc n) t ≡ turn holds nodes j v
+  unfolding turns
+  turns_more n j v e = ap (next_turn holds nodes) e
+
+  pub going_none : Going 0
+  going_none m l = absurd (omega arith)
+
+  pub going_more : (n j : ℕ) (v : Walk) → turns holds nodes n t ≡ leaves_next j v → Going n → Going (suc n)
+  going_more n j v e g m l =
+      elim (lt_or_le m n) [
+        | inl x ↦ g m x
+        | inr x ↦
+            let q : n ≡ m = omega arith in
+            subst (λ (k : ℕ). is_over (turns holds nodes k t) ≡ false) q (ap is_over e)
+      ]
+
 -- ---- places: how many nodes a walk of the whole tree leaves before node i
 ancestors_few : (nodes : List ℕ) (i n : ℕ) → length (ancestors_below nodes i n) ≤ n
 unfolding ancestors_below
@@ -205,17 +232,22 @@ module _ (nodes : List ℕ) (ok : NodesOk nodes) where
           pick (leaves_next j v) a = let x = a.2 in let y = place_fits j a.1 in absurd (omega arith)
 
       -- while the climb goes on, fewer turns than N were taken
-      pub going_few : (n : ℕ) → is_over (turns holds nodes n (leaves_next i w)) ≡ false → n < node_count nodes
-      going_few n g = pick (turns holds nodes n (leaves_next i w)) g (after_turns n)
-        where
-          pick : (t : Turn) → is_over t ≡ false → After n t → n < node_count nodes
-          pick (over v) f a = absurd (true≢false f)
-          pick (leaves_next j v) f a = let x = a.2 in let y = place_fits j a.1 in omega arith
+      pub going_few : (n j : ℕ) (v : Walk) → turns holds nodes n (leaves_next i w) ≡ leaves_next j v
+          → (j < node_count nodes) × (n < node_count nodes)
+      going_few n j v e =
+          let a = subst (After n) e (after_turns n) in
+          let x = a.2 in
+          let y = place_fits j a.1 in
+          (a.1, omega arith)
 
       -- a climb of n turns: n is at most N, and what it leaves is what `leave` gives
       pub climb_few : (n : ℕ) (r : Walk) → Climbs holds nodes i w n r → n ≤ node_count nodes
       climb_few zero r c = omega arith
-      climb_few (suc n) r c = let g = going_few n (c.no_sooner n (omega arith)) in omega arith
+      climb_few (suc n) r c = pick (turns holds nodes n (leaves_next i w)) refl (c.no_sooner n (omega arith))
+        where
+          pick : (t : Turn) → turns holds nodes n (leaves_next i w) ≡ t → is_over t ≡ false → suc n ≤ node_count nodes
+          pick (over v) e f = absurd (true≢false f)
+          pick (leaves_next j v) e f = (going_few n j v e).1
 
       pub climb_leaves : (n : ℕ) (r : Walk) → Climbs holds nodes i w n r → leave holds nodes i w ≡ r
       climb_leaves n r c = subst (After n) c.ends (after_turns n)

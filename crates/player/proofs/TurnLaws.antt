@@ -1,0 +1,47 @@
+-- The turns of a climb from node i, as the code counts them: n turns of the rules have come to the node of the next turn.
+use Rattle.std.proofs.Common.{◌≡◌, ℕ, ◌+◌, ◌<◌, ◌∙◌, Bool, List, Option, Some, None, ap, subst, arith, add-one}
+use Rattle.semantics.specs.Program.{node_count}
+use Rattle.semantics.specs.Walk.{Walk}
+use Rattle.semantics.specs.Climb.{Turn, turn, turns, Climbs}
+use Rattle.semantics.specs.Climb.Turn.{leaves_next}
+use Rattle.semantics.proofs.Walks.ClimbLaws.{Going, turns_more, going_more, going_few}
+use Rattle.program.specs.Accepted.{accepted_in}
+use Rattle.program.specs.declared.accepted.Accepted.{Accepted as AcceptedCode}
+use Rattle.player.specs.declared.memo.Memo.{Memo}
+use Rattle.player.specs.Walks.{turn_to, holds_in, holds_now}
+use Rattle.player.proofs.AcceptedLaws.{is_accepted}
+use Rattle.player.proofs.AcceptedNodeLaws.{nodes_fit}
+
+module _ (program : AcceptedCode) (before : Memo) (i : ℕ) (w : Walk) (l : i < node_count program.lists.nodes.now) where
+  abbrev nodes : List ℕ
+  nodes = program.lists.nodes.now
+
+  abbrev after : ℕ → Turn
+  after n = turns (holds_now (accepted_in program) before) nodes n (leaves_next i w)
+
+  module _ (n j : ℕ) (next : Option ℕ) (v : Walk) (e : after n ≡ turn_to next v) (q : next ≡ Some j) where
+    here : after n ≡ leaves_next j v
+    here = e ∙ ap (λ (r : Option ℕ). turn_to r v) q
+
+    few : (j < node_count nodes) × (n < node_count nodes)
+    few = going_few nodes (is_accepted program).nodes_ok (holds_now (accepted_in program) before) i w l n j v here
+
+    -- the next turn leaves a node, and fewer turns than there are nodes were taken
+    pub turn_bounds : (j < node_count nodes) × (n < node_count nodes) × (n < 1024)
+    turn_bounds = let b = few in let fit = nodes_fit program in (b.0, b.1, omega arith)
+
+    pub turn_more : (memo : Memo) (r : Option ℕ) (u : Walk) → memo.variables ≡ before.variables
+        → turn (holds_now (accepted_in program) memo) nodes j v ≡ turn_to r u → after (n + 1) ≡ turn_to r u
+    turn_more memo r u same t =
+        rw add-one (turns_more (holds_now (accepted_in program) before) nodes (leaves_next i w) n j v here)
+        ∙ subst (λ (values : List ℕ). turn (holds_in program.lists.exprs.now values) nodes j v ≡ turn_to r u) same t
+
+    pub no_sooner_more : Going (holds_now (accepted_in program) before) nodes (leaves_next i w) n
+        → Going (holds_now (accepted_in program) before) nodes (leaves_next i w) (n + 1)
+    no_sooner_more g = rw add-one (going_more (holds_now (accepted_in program) before) nodes (leaves_next i w) n j v here g)
+
+-- with no node of a next turn the climb is over
+pub climb_over : {holds : ℕ → Bool} {nodes : List ℕ} {i n : ℕ} {next : Option ℕ} {w v : Walk} → next ≡ None
+    → turns holds nodes n (leaves_next i w) ≡ turn_to next v → Going holds nodes (leaves_next i w) n
+    → Climbs holds nodes i w n v
+climb_over {v = v} q e g = record { ends = e ∙ ap (λ (r : Option ℕ). turn_to r v) q; no_sooner = g }
