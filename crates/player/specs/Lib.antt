@@ -1,6 +1,7 @@
 pub mod Word
 pub mod Begin
 pub mod Run
+pub mod Turn
 pub mod Memo
 pub mod Work
 pub mod Walks

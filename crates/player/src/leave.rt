@@ -70,7 +70,7 @@ fn after_body(
 // One turn: node i is left. Gives the node that the next turn leaves, or none where the climb is over: leaving node 0, which
 // has no parent, does nothing. A PAR counts one thread fewer, and is left with the last. A leaf is no parent.
 #[tactic(auto, using(crate::proofs::AcceptedNodeLaws::child_left))]
-fn turn(
+pub fn turn(
     program: &Accepted,
     work: &mut Work,
     marks: &mut [u8],

@@ -28,15 +28,18 @@ mod widths; // the widths of the variables
 mod work; // what entering and leaving nodes work in
 
 ghost use Rattle.std.specs.Prelude.{◌≡◌};
+ghost use Rattle.program.specs.Accepted.{accepted_in};
 ghost use Rattle.program.specs.Answer.{program_in, number_of, item_of};
 ghost use Rattle.player.specs.Begin.{state_of, BeginAnswer};
 ghost use Rattle.player.specs.Run.{RunAnswer, number_of_run, item_of_run, worked_by};
+ghost use Rattle.player.specs.Turn.{TurnAnswer};
 
 use cycles::work_cycles;
 use lengths::ask_lengths;
-pub use program::{Program, Refusal, check};
+pub use program::{Accepted, Program, Refusal, check};
 use root::enter_root;
 use well_formed::{ask_state, ask_values};
+use work::Work;
 
 // The lists stand side by side, as C lends them.
 
@@ -89,4 +92,39 @@ pub fn run(
     ask_lengths(&accepted, values, marks, counts)?;
     ask_state(&accepted, values, marks, counts)?;
     work_cycles(&accepted, values, marks, counts, book, cycles)
+}
+
+// What a turn of a climb comes to.
+#[derive(Clone, Copy, Debug, PartialEq, Eq)]
+pub struct Turn {
+    // The node that the next turn leaves; none where the climb is over.
+    pub next: Option<u16>,
+    // Whether the turn met a zero-time loop.
+    pub looped: bool,
+}
+
+// One turn of a climb, for whoever follows a cycle turn by turn: node i is left, in the marks and counts of a walk, with
+// conditions read in these values. Run takes the same turns. Asks question 5. What is no node has no parent: leaving it does
+// nothing.
+pub fn take_turn(
+    program: &Accepted,
+    values: &[u16],
+    marks: &mut [u8],
+    counts: &mut [u16],
+    i: u16,
+) -> Result<Turn, Refusal>
+    ensures { TurnAnswer (accepted_in program.now) (state_of values.now marks.old counts.old) i result marks.new counts.new }
+{
+    ask_lengths(program, values, marks, counts)?;
+    let mut work = Work::new();
+    start::fill(program, values, marks, &mut work);
+    let next = if (i as usize) < marks.len() {
+        leave::turn(program, &mut work, marks, counts, i)
+    } else {
+        None
+    };
+    Ok(Turn {
+        next,
+        looped: work.looped,
+    })
 }
