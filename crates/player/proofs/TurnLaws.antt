@@ -1,6 +1,7 @@
 -- The turns of a climb from node i, as the code counts them: n turns of the rules have come to the node of the next turn.
-use Rattle.std.proofs.Common.{◌≡◌, ℕ, ◌+◌, ◌<◌, ◌∙◌, Bool, List, Option, Some, None, ap, subst, arith, add-one}
-use Rattle.semantics.specs.Program.{node_count}
+use Rattle.std.proofs.Common.{◌≡◌, ℕ, ◌+◌, ◌<◌, ◌∙◌, Bool, true, false, List, Option, Some, None, Ok, refl, sym, ap, subst, arith, add-one}
+use Rattle.semantics.specs.Program.{Program, node_count}
+use Rattle.semantics.specs.State.{State, lengths_ok}
 use Rattle.semantics.specs.Walk.{Walk}
 use Rattle.semantics.specs.Climb.{Turn, turn, turns, Climbs}
 use Rattle.semantics.specs.Climb.Turn.{leaves_next}
@@ -8,9 +9,14 @@ use Rattle.semantics.proofs.Walks.ClimbLaws.{Going, turns_more, going_more, goin
 use Rattle.program.specs.Accepted.{accepted_in}
 use Rattle.program.specs.declared.accepted.Accepted.{Accepted as AcceptedCode}
 use Rattle.player.specs.declared.memo.Memo.{Memo}
-use Rattle.player.specs.Walks.{turn_to, holds_in, holds_now}
+use Rattle.player.specs.declared.work.Work.{Work}
+use Rattle.player.specs.declared.Turn.{Turn as CodeTurn}
+use Rattle.player.specs.Memo.{Holds}
+use Rattle.player.specs.Turn.{turn_in, TurnAnswer}
+use Rattle.player.specs.Walks.{walk, walk_in, turn_to, holds_in, holds_now}
 use Rattle.player.proofs.AcceptedLaws.{is_accepted}
 use Rattle.player.proofs.AcceptedNodeLaws.{nodes_fit}
+use Rattle.player.proofs.MemoLaws.{same_conditions}
 
 module _ (program : AcceptedCode) (before : Memo) (i : ℕ) (w : Walk) (l : i < node_count program.lists.nodes.now) where
   abbrev nodes : List ℕ
@@ -45,3 +51,18 @@ pub climb_over : {holds : ℕ → Bool} {nodes : List ℕ} {i n : ℕ} {next : O
     → turns holds nodes n (leaves_next i w) ≡ turn_to next v → Going holds nodes (leaves_next i w) n
     → Climbs holds nodes i w n v
 climb_over {v = v} q e g = record { ends = e ∙ ap (λ (r : Option ℕ). turn_to r v) q; no_sooner = g }
+
+-- ---- one turn by itself
+module _ (P : Program) (s : State) (i : ℕ) (work : Work) (fit : lengths_ok P s ≡ true) where
+  module _ (holds : Holds s.values work.memo) (unmet : work.looped ≡ false) where
+    -- it starts from the marks and counts that are lent
+    turn_begun : turn_in P s i ≡ turn (holds_now P work.memo) P.nodes i (walk_in s.marks s.counts work)
+    turn_begun =
+        ap (λ (f : ℕ → Bool). turn f P.nodes i (walk s.marks s.counts false)) (sym (same_conditions P s.values work.memo holds))
+        ∙ ap (λ (b : Bool). turn (holds_now P work.memo) P.nodes i (walk s.marks s.counts b)) (sym unmet)
+
+    pub turn_answered : {marks counts : List ℕ} (t : CodeTurn)
+        → turn (holds_now P work.memo) P.nodes i (walk_in s.marks s.counts work)
+        ≡ turn_to t.next (walk marks counts t.looped)
+        → TurnAnswer P s i (Ok t) marks counts
+    turn_answered t e = record { right_number = rw fit refl; no_item = refl; right_turn = turn_begun ∙ e }

@@ -5,11 +5,11 @@ use mathlib.Core.Bool.{true, cond}
 use mathlib.Core.List.{List, [], ◌∷◌}
 use mathlib.Core.Option.{Option, none, some}
 use mathlib.Core.Logic.{inl, inr}
-use Prim.Native.Nat.{ℕ, zero, suc, ◌≤◌, ◌<◌}
+use Prim.Native.Nat.{ℕ, zero, suc, ◌%◌, ◌≤◌, ◌<◌}
 use native.Mathlib.Nat.{le_refl, le_trans}
 use native.Mathlib.Omega.{arith}
 use lib.Dec.{eqb, leb}
-use lib.ListN.{length}
+use lib.ListN.{length, get_or-eq_default}
 use borrow.Author.Tests.{eqb-true, leb-true}
 use Rattle.semantics.specs.Program.{node_count, kind_at, parent_at, end_at, a_at, b_at, is_leaf}
 use Rattle.semantics.specs.Parents.{parent_below, parent, depth, children}
@@ -115,6 +115,21 @@ module _ (nodes : List ℕ) (ok : NodesOk nodes) where
       let e = root_end (omega arith) in
       let z = ends_nested 0 (suc i) (omega arith) l (omega arith) in
       omega arith
+
+  -- what stands past the nodes has no parent
+  pub no_parent_past : length nodes % 5 ≡ 0 → (i : ℕ) → node_count nodes ≤ i → parent nodes i ≡ none
+  no_parent_past whole i l = pick (parent nodes i) refl
+    where
+      pick : (p : Option ℕ) → parent nodes i ≡ p → p ≡ none
+      pick none e = refl
+      pick (some h) e =
+          let c = (is_parent nodes i h e).covers in
+          elim (lt_or_le h (node_count nodes)) [
+            | inl v ↦ let f = end_fits h v in absurd (omega arith)
+            | inr v ↦
+                let past : end_at nodes h ≡ 0 = get_or-eq_default nodes 0 (omega arith) in
+                absurd (omega arith)
+          ]
 
   -- ---- the next child is where one ends
   pub under_end : (h i : ℕ) → i < node_count nodes → Under nodes h i → Under nodes h (end_at nodes i)
