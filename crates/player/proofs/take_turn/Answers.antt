@@ -1,5 +1,5 @@
 -- `take_turn` takes the rules' turn once question 5 is answered yes.
-use Rattle.std.proofs.Common.{arith, ◌∙◌}
+use Rattle.std.proofs.Common.{arith}
 use Rattle.semantics.proofs.Tree.NodeLaws.{no_parent_past}
 use Rattle.semantics.proofs.Walks.ClimbLaws.{turn_none}
 use Rattle.semantics.proofs.Order.CycleOrder.{fits_lengths}
