@@ -1,12 +1,17 @@
 -- An end theorem of this crate: a call is a function of what it is lent. Take any two results that keep a call's
 -- promise for the same program, state, number of cycles and book: they are equal. It is said once of check, begin and
--- run, and once of what they hand to C, where number, item and cycles worked are in one word.
-use mathlib.Core.Path.{◌≡◌, ◌∙◌}
+-- run, once of what they hand to C, where number, item and cycles worked are in one word, and once of take_turn, which
+-- is lent a node.
+use mathlib.Core.Path.{◌≡◌, refl, ◌∙◌}
+use mathlib.Core.Bool.{Bool, true, false}
 use mathlib.Core.List.{List}
 use Prim.Native.Nat.{ℕ, ◌+◌, ◌*◌}
 use native.Mathlib.Omega.{arith}
 use Rattle.semantics.specs.Program.{Program}
-use Rattle.semantics.specs.State.{State}
+use Rattle.std.specs.Prelude.{Result, Ok, Err, Option, Some, None}
+use Rattle.semantics.specs.State.{State, lengths_ok}
+use Rattle.semantics.specs.Climb.{Turn as Rules}
+use Rattle.semantics.specs.Climb.Turn.{leaves_next, over}
 use Rattle.semantics.specs.Calls.{Answer, run_answer}
 use Rattle.semantics.proofs.Lists.OneResult.{OneResult, determined}
 use Rattle.program.specs.Answer.{CheckAnswer}
@@ -15,6 +20,11 @@ use Rattle.program.proofs.AnswerLaws.{word_of_parts}
 use Rattle.player.specs.Begin.{BeginAnswer}
 use Rattle.player.specs.Run.{RunAnswer}
 use Rattle.player.specs.Word.{item_of_run_in, worked_in}
+use Rattle.player.specs.Turn.{turn_in, TurnAnswer}
+use Rattle.player.specs.Walks.{walk, turn_to}
+use Rattle.player.specs.declared.Turn.{Turn}
+use Rattle.program.specs.declared.refusal.Refusal.{Refusal}
+use Rattle.program.specs.declared.refusal.Refusal.TheVariants.{Lengths}
 
 -- ---- what the calls hand back, and that it keeps their promises
 
@@ -52,6 +62,24 @@ abbrev pub RunGivesWord : Program → ℕ → State → List ℕ → (ℕ × Sta
 RunGivesWord P cycles s book (word, s') =
     RunAnswer P cycles s book (number_in word) (item_of_run_in word) (worked_in word) s'
 
+-- ---- one turn, in Rattle alone
+
+pub record TurnResult : Type 0 where
+  pub answer : Result Turn Refusal
+  pub marks : List ℕ
+  pub counts : List ℕ
+
+abbrev pub TurnGives : Program → State → ℕ → TurnResult → Type 0
+TurnGives P s i r = TurnAnswer P s i r.answer r.marks r.counts
+
+-- what is handed back, where question 5 is answered no, and of what the rules' turn comes to
+abbrev turn_result : State → Bool → Rules → TurnResult
+turn_result s false t = record { answer = Err Lengths; marks = s.marks; counts = s.counts }
+turn_result s true (leaves_next j w) =
+    record { answer = Ok (record { next = Some j; looped = w.looped }); marks = w.marks; counts = w.counts }
+turn_result s true (over w) =
+    record { answer = Ok (record { next = None; looped = w.looped }); marks = w.marks; counts = w.counts }
+
 -- ---- the theorem
 
 pub rules_answer : {P : Program} {cycles : ℕ} {s : State} {book : List ℕ} {r : Answer} → RunGives P cycles s book r
@@ -69,6 +97,21 @@ word_of_run : (word : ℕ) {number item worked : ℕ} → number_in word ≡ num
 word_of_run word n i w =
     let above : item_in (item_in word) ≡ worked_in word = omega arith in
     word_of_parts word n (word_of_parts (item_in word) i (above ∙ w))
+
+turn_taken : (s : State) (next : Option ℕ) (looped : Bool) (marks counts : List ℕ)
+    → record { answer = Ok (record { next = next; looped = looped }); marks = marks; counts = counts }
+    ≡ turn_result s true (turn_to next (walk marks counts looped))
+turn_taken s None looped marks counts = refl
+turn_taken s (Some j) looped marks counts = refl
+
+rules_turn : (P : Program) (s : State) (i : ℕ) (a : Result Turn Refusal) (marks counts : List ℕ)
+    → TurnAnswer P s i a marks counts
+    → record { answer = a; marks = marks; counts = counts } ≡ turn_result s (lengths_ok P s) (turn_in P s i)
+rules_turn P s i (Ok t) marks counts g = rw (g.fit, g.right) (turn_taken s t.next t.looped marks counts)
+rules_turn P s i (Err refusal) marks counts g = rw (g.unfit, g.question, g.marks_kept, g.counts_kept) refl
+
+pub one_turn : (P : Program) (s : State) (i : ℕ) → OneResult (TurnGives P s i)
+one_turn P s i = determined (λ r g. rules_turn P s i r.answer r.marks r.counts g)
 
 module _ (P : Program) (s : State) (cycles : ℕ) (book : List ℕ) where
   pub one_result : OneResult (CheckGives P) × OneResult (BeginGives P s) × OneResult (RunGives P cycles s book)

@@ -1,5 +1,5 @@
 -- The turns of a climb from node i, as the code counts them: n turns of the rules have come to the node of the next turn.
-use Rattle.std.proofs.Common.{◌≡◌, ℕ, ◌+◌, ◌<◌, ◌∙◌, Bool, true, false, List, Option, Some, None, Ok, refl, sym, ap, subst, arith, add-one}
+use Rattle.std.proofs.Common.{◌≡◌, ℕ, ◌+◌, ◌<◌, ◌∙◌, Bool, true, false, List, Option, Some, None, Ok, sym, ap, subst, arith, add-one}
 use Rattle.semantics.specs.Program.{Program, node_count}
 use Rattle.semantics.specs.State.{State, lengths_ok}
 use Rattle.semantics.specs.Walk.{Walk}
@@ -65,4 +65,4 @@ module _ (P : Program) (s : State) (i : ℕ) (work : Work) (fit : lengths_ok P s
         → turn (holds_now P work.memo) P.nodes i (walk_in s.marks s.counts work)
         ≡ turn_to t.next (walk marks counts t.looped)
         → TurnAnswer P s i (Ok t) marks counts
-    turn_answered t e = record { right_number = rw fit refl; no_item = refl; right_turn = turn_begun ∙ e }
+    turn_answered t e = record { fit = fit; right = turn_begun ∙ e }
