@@ -18,8 +18,8 @@ use Rattle.semantics.proofs.Tree.ChildLaws.{some_child, whl_only_child}
 use Rattle.semantics.proofs.Tree.StatementLaws.{child_count-none, child_count-more}
 use Rattle.semantics.proofs.Tree.StatementLaws.{enter_in_turn-more, enter_each-none, enter_each-more}
 use Rattle.semantics.proofs.Walks.EnterLaws.{enter_leaf, enter_in_turn-one, enter_seq, enter_par}
-use Rattle.semantics.proofs.Walks.ClimbLaws.{turn_none, turn_seq_next, turn_seq_last, turn_par, turn_if}
-use Rattle.semantics.proofs.Walks.ClimbLaws.{turn_whl_true, turn_whl_false}
+use Rattle.semantics.proofs.Walks.TurnLaws.{turn_none, turn_seq_next, turn_seq_last, turn_par, turn_if}
+use Rattle.semantics.proofs.Walks.TurnLaws.{turn_whl_true, turn_whl_false}
 use Rattle.program.specs.Accepted.{accepted_in}
 use Rattle.program.specs.declared.accepted.Accepted.{Accepted as AcceptedCode}
 use Rattle.player.specs.declared.memo.Memo.{Memo}

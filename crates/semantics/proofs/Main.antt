@@ -31,7 +31,7 @@ use Rattle.semantics.proofs.Order.VariableWidths
 use Rattle.semantics.proofs.Order.OldPapers
 use Rattle.semantics.proofs.Order.FirstFault
 use Rattle.semantics.proofs.Files.RoundTrip
-use Rattle.semantics.proofs.Walks.ClimbLaws
+use Rattle.semantics.proofs.Walks.TurnLaws
 
 -- The order rule. For an accepted program and a state that questions 5 and 6 let by, two books give equal answers of
 -- run (number, item, cycles worked and the three lists) exactly when both first go wrong at the same cycle, or neither
@@ -160,13 +160,13 @@ read_then_write = RoundTrip.read_then_write
 pub climb_in_turns : (P : Program) → check_number P ≡ 0
     → (holds : ℕ → Bool) (i : ℕ) → i < node_count P.nodes → (w : Walk)
     → turns holds P.nodes (node_count P.nodes) (leaves_next i w) ≡ over (leave holds P.nodes i w)
-climb_in_turns = ClimbLaws.climb_in_turns
+climb_in_turns = TurnLaws.climb_in_turns
 
 -- No climb takes more than N turns: where one is over after n turns and no fewer, n is at most N.
 pub climb_bound : (P : Program) → check_number P ≡ 0
     → (holds : ℕ → Bool) (i : ℕ) → i < node_count P.nodes → (w : Walk)
     → (n : ℕ) (r : Walk) → Climbs holds P.nodes i w n r → (n ≤ node_count P.nodes) × (r ≡ leave holds P.nodes i w)
-climb_bound = ClimbLaws.climb_bound
+climb_bound = TurnLaws.climb_bound
 
 -- Check, begin, run, read, write and sizes answer every sample of specs/Samples as written there, and the turns of a
 -- climb leave the nodes that are written there.

@@ -2,7 +2,7 @@
 -- the walks over the lists are those.
 pub mod EnterLaws
 pub mod LeaveLaws
-pub mod ClimbLaws
+pub mod TurnLaws
 pub mod LeaveFrames
 pub mod TreeState
 pub mod TreeWalk

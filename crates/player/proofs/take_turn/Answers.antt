@@ -1,7 +1,7 @@
 -- `take_turn` takes the rules' turn once question 5 is answered yes.
 use Rattle.std.proofs.Common.{arith}
 use Rattle.semantics.proofs.Tree.NodeLaws.{no_parent_past}
-use Rattle.semantics.proofs.Walks.ClimbLaws.{turn_none}
+use Rattle.semantics.proofs.Walks.TurnLaws.{turn_none}
 use Rattle.semantics.proofs.Order.CycleOrder.{fits_lengths}
 use Rattle.program.proofs.AnswerLaws.{answer_to-ok}
 use Rattle.player.proofs.AcceptedLaws.{is_accepted}

@@ -1,7 +1,6 @@
--- Leaving a node of an accepted list, by the kind of its parent, one turn at a time, as "The plain machine" of the
--- rules document tells it. `leave_parent` and `leave_root` serve code that goes up by the parent word, which
--- `parent_word` of NodeLaws says is the parent. The laws by kinds hold `leave_child` against the document, and the
--- code that leaves one node a turn goes by them.
+-- Leaving a node of an accepted list, by the kind of its parent, child by child, as "The plain machine" of the rules
+-- document tells it. The laws by kinds hold `leave_child` against the document, and TurnLaws goes by them, where it says
+-- that the turns of a climb are `leave`.
 use mathlib.Core.Path.{◌≡◌, refl, sym, ap, ◌∙◌}
 use mathlib.Core.Bool.{Bool, true, false, cond}
 use mathlib.Core.List.{List}

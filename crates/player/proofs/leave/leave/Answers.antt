@@ -1,6 +1,6 @@
 -- `leave` takes as many turns as the rules' climb: after each the climb has come to the node of the next.
 use Rattle.std.proofs.Common.{refl, arith}
-use Rattle.semantics.proofs.Walks.ClimbLaws.{turns_none, going_none, climb_few, climb_leaves}
+use Rattle.semantics.proofs.Walks.TurnLaws.{turns_none, going_none, climb_few, climb_leaves}
 use Rattle.player.proofs.AcceptedLaws.{is_accepted}
 use Rattle.player.proofs.TurnLaws.{turn_bounds, turn_more, no_sooner_more, climb_over}
 use Rattle.player.proofs.WalkingLaws.{kept_trans}
