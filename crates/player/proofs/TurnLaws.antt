@@ -2,10 +2,10 @@
 use Rattle.std.proofs.Common.{◌≡◌, ℕ, ◌+◌, ◌<◌, ◌∙◌, Bool, true, false, List, Option, Some, None, Ok, sym, ap, subst, arith, add-one}
 use Rattle.semantics.specs.Program.{Program, node_count}
 use Rattle.semantics.specs.State.{State, lengths_ok}
-use Rattle.semantics.specs.Walk.{Walk}
+use Rattle.semantics.specs.Walk.{Walk, leave}
 use Rattle.semantics.specs.Climb.{Turn, turn, turns, Climbs}
 use Rattle.semantics.specs.Climb.Turn.{leaves_next}
-use Rattle.semantics.proofs.Walks.TurnLaws.{Going, turns_more, going_more, going_few}
+use Rattle.semantics.proofs.Walks.TurnLaws.{Going, turns_none, turns_more, going_none, going_more, going_few, climb_few, climb_leaves}
 use Rattle.program.specs.Accepted.{accepted_in}
 use Rattle.program.specs.declared.accepted.Accepted.{Accepted as AcceptedCode}
 use Rattle.player.specs.declared.memo.Memo.{Memo}
@@ -17,6 +17,7 @@ use Rattle.player.specs.Walks.{walk, walk_in, turn_to, holds_in, holds_now}
 use Rattle.player.proofs.AcceptedLaws.{is_accepted}
 use Rattle.player.proofs.AcceptedNodeLaws.{nodes_fit}
 use Rattle.player.proofs.MemoLaws.{same_conditions}
+use Rattle.player.proofs.WalkingLaws.{kept_trans}
 
 module _ (program : AcceptedCode) (before : Memo) (i : ℕ) (w : Walk) (l : i < node_count program.lists.nodes.now) where
   abbrev nodes : List ℕ
@@ -46,11 +47,16 @@ module _ (program : AcceptedCode) (before : Memo) (i : ℕ) (w : Walk) (l : i < 
         → Going (holds_now (accepted_in program) before) nodes (leaves_next i w) (n + 1)
     no_sooner_more g = rw add-one (going_more (holds_now (accepted_in program) before) nodes (leaves_next i w) n j v here g)
 
--- with no node of a next turn the climb is over
-pub climb_over : {holds : ℕ → Bool} {nodes : List ℕ} {i n : ℕ} {next : Option ℕ} {w v : Walk} → next ≡ None
-    → turns holds nodes n (leaves_next i w) ≡ turn_to next v → Going holds nodes (leaves_next i w) n
-    → Climbs holds nodes i w n v
-climb_over {v = v} q e g = record { ends = e ∙ ap (λ (r : Option ℕ). turn_to r v) q; no_sooner = g }
+  -- where no turn comes next, the climb is over, and leaving is done
+  pub climb_over : (n : ℕ) (next : Option ℕ) (v : Walk) → after n ≡ turn_to next v → next ≡ None
+      → Going (holds_now (accepted_in program) before) nodes (leaves_next i w) n
+      → leave (holds_now (accepted_in program) before) nodes i w ≡ v
+  climb_over n next v e q g =
+      let ok = (is_accepted program).nodes_ok in
+      let holds = holds_now (accepted_in program) before in
+      let climb : Climbs holds nodes i w n v =
+      record { ends = e ∙ ap (λ (r : Option ℕ). turn_to r v) q; no_sooner = g } in
+      climb_leaves nodes ok holds i w l n v climb
 
 -- ---- one turn by itself
 module _ (P : Program) (s : State) (i : ℕ) (work : Work) (fit : lengths_ok P s ≡ true) where
@@ -66,3 +72,5 @@ module _ (P : Program) (s : State) (i : ℕ) (work : Work) (fit : lengths_ok P s
         ≡ turn_to t.next (walk marks counts t.looped)
         → TurnAnswer P s i (Ok t) marks counts
     turn_answered t e = record { fit = fit; right = turn_begun ∙ e }
+
+pub ruleset climb_turns = (turns_none, going_none, turn_bounds, turn_more, no_sooner_more, climb_over, kept_trans)

@@ -100,6 +100,7 @@ pub fn turn(
 // Leave node i. Gives the number of turns, which is N at most: after each turn the node that is left next has a later place in
 // the order in which a walk of the whole tree leaves the nodes. By `successors` the step would be a closure that writes the lent
 // lists: no plainer.
+#[tactic(auto, using(crate::proofs::TurnLaws::climb_turns))]
 pub fn leave(
     program: &Accepted,
     work: &mut Work,

@@ -1,5 +1,5 @@
 -- `leave` climbs one turn at a time.
-use Rattle.std.proofs.Common.{◌≡◌, false, ℕ, ◌-◌, ◌<◌}
+use Rattle.std.proofs.Common.{◌≡◌, false, ℕ, ◌-◌, ◌≤◌, ◌<◌}
 use Rattle.semantics.specs.Program.{node_count}
 use Rattle.semantics.specs.Climb.{Turn, is_over, turns}
 use Rattle.semantics.specs.Climb.Turn.{leaves_next}
@@ -16,6 +16,7 @@ invariant-loop-next l =
     record {
       right : after l.turns ≡ turn_to l.next (walk_in l.marks l.counts l.work);
       no_sooner : (m : ℕ) → m < l.turns → is_over (after m) ≡ false;
+      few : l.turns ≤ node_count (accepted_in l.program).nodes;
       walking : Walking (accepted_in l.program) l.marks l.counts l.work;
       kept : KeptTables l.initial.work l.work;
     }
