@@ -1,7 +1,8 @@
-//! A second, plain implementation of the rules, written from the rules document alone, and what is
-//! needed to set the player against it.
+//! A second, plain implementation of the rules, written from the rules document and the change requests
+//! alone, and what is needed to set the player against it.
 
 pub mod answer;
+pub mod climb;
 pub mod compare;
 pub mod documents;
 pub mod expression;

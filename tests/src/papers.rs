@@ -1,8 +1,9 @@
 //! The sample papers of the rules document, with all that it says comes out of them, and papers of our
 //! own, worked by hand: `stored_condition`, `uneven_threads` and all in `widths`, `refusals`,
-//! `first_fault` and `files`.
+//! `first_fault`, `files` and `climbs`.
 
 mod channels;
+mod climbs;
 mod files;
 mod first_fault;
 mod limits;
@@ -12,6 +13,7 @@ mod refusals;
 mod widths;
 
 pub use channels::{delayed_out, two_in_on_one_channel, waiting_in_is_no_store};
+pub use climbs::{chain, chain_cycle, skipped, skipped_cycles, thread_loop, thread_loop_cycles};
 pub use files::{counter_file, delay_file, files, input_file, refused_program, PaperFile};
 pub use first_fault::first_faults;
 pub use limits::{depth_32, depth_33, n_1024, n_1025};
@@ -34,6 +36,7 @@ pub use widths::{
 };
 
 use crate::answer::Answer;
+use crate::climb::Climb;
 use crate::program::{Program, State};
 
 /// A program with starting values, and what the calls give for it.
@@ -54,6 +57,22 @@ pub struct Run {
     pub number: u16,
     pub worked: u16,
     pub after: State,
+}
+
+/// A cycle, with every turn of the climbs in it. All its entries complete.
+pub struct Cycle {
+    pub name: &'static str,
+    pub program: Program,
+    pub before: State,
+    /// In the order of the book.
+    pub climbs: Vec<Climb>,
+    pub after: State,
+}
+
+impl Cycle {
+    pub fn entries(&self) -> Vec<u16> {
+        self.climbs.iter().map(|climb| climb.entry).collect()
+    }
 }
 
 /// A program and a state that are refused, with nothing written.
@@ -110,7 +129,18 @@ pub fn all() -> Vec<Paper> {
         wide_formula_of_narrow_variable(),
         condition_beyond_the_width(),
         two_stores_to_one_bit(),
+        skipped(),
+        chain(),
+        thread_loop(),
     ]
+}
+
+pub fn cycles() -> Vec<Cycle> {
+    let chain = vec![chain_cycle()];
+    [skipped_cycles(), chain, thread_loop_cycles()]
+        .into_iter()
+        .flatten()
+        .collect()
 }
 
 pub fn refusals() -> Vec<Refusal> {

@@ -1,5 +1,6 @@
 //! The rules, followed word by word as the rules document and change requests No. 1 (widths), No. 2
-//! (the first fault) and No. 3 (papers as files) have them, without regard to speed.
+//! (the first fault), No. 3 (papers as files) and No. 4 (the climb as a loop) have them, without
+//! regard to speed.
 
 mod begin;
 mod check;
@@ -15,5 +16,5 @@ pub use begin::{begin, begun};
 pub use check::{check, faults};
 pub use evaluate::evaluate;
 pub use paper::{bytes, read, sizes, write};
-pub use run::run;
+pub use run::{climbs, run};
 pub use tree::Tree;

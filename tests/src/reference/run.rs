@@ -8,6 +8,7 @@ use super::walk::Walk;
 use super::well_formed::well_formed;
 use super::widths::kept;
 use crate::answer::Answer;
+use crate::climb::Climb;
 use crate::program::{Program, State, ASG, DLY, IN, OUT};
 
 /// The answer, the cycles worked, and the state as the call leaves it.
@@ -35,7 +36,7 @@ pub fn run(
         let m = state.marked().len();
         let (entries, later) = left.split_at(m.min(left.len()));
         match cycle(program, &tree, &state, entries) {
-            Ok(next) => state = next,
+            Ok((_, next)) => state = next,
             Err(number) => return (Answer::without_item(number), worked, state),
         }
         left = later;
@@ -44,7 +45,23 @@ pub fn run(
     (Answer::without_item(0), worked, state)
 }
 
-fn cycle(program: &Program, tree: &Tree, state: &State, entries: &[u16]) -> Result<State, u16> {
+/// One cycle by these entries: the climbs of those that complete, in the order of the entries, and the
+/// state that the cycle leaves; or the number that refuses it. The program is accepted, and questions
+/// 5 and 6 let the state by.
+pub fn climbs(
+    program: &Program,
+    state: &State,
+    entries: &[u16],
+) -> Result<(Vec<Climb>, State), u16> {
+    cycle(program, &Tree::of(program), state, entries)
+}
+
+fn cycle(
+    program: &Program,
+    tree: &Tree,
+    state: &State,
+    entries: &[u16],
+) -> Result<(Vec<Climb>, State), u16> {
     let marked = state.marked();
     if !each_once(&marked, entries) {
         return Err(7);
@@ -67,20 +84,22 @@ fn cycle(program: &Program, tree: &Tree, state: &State, entries: &[u16]) -> Resu
         marks: vec![0; state.marks.len()],
         counts: state.counts.clone(),
     };
+    let mut climbs = Vec::new();
     for &entry in entries {
         let i = entry as usize;
         if completes(program, &marked, i) {
-            walk.leave(i).map_err(|_| 10_u16)?;
+            let turns = walk.leave(i).map_err(|_| 10_u16)?;
+            climbs.push(Climb { entry, turns });
         } else {
             walk.marks[i] = 1;
         }
     }
-    let (marks, counts) = (walk.marks, walk.counts);
-    Ok(State {
+    let after = State {
         values,
-        marks,
-        counts,
-    })
+        marks: walk.marks,
+        counts: walk.counts,
+    };
+    Ok((climbs, after))
 }
 
 fn each_once(marked: &[usize], entries: &[u16]) -> bool {

@@ -2,6 +2,7 @@
 //! all expressions and not the values.
 
 use super::tree::Tree;
+use crate::climb::{Entered, Turn};
 use crate::program::{Program, ASG, DLY, IF, IN, OUT, PAR, SEQ, WHL};
 
 pub struct ZeroTimeLoop;
@@ -13,6 +14,9 @@ pub enum Outcome {
 }
 
 use Outcome::{Finished, Stays};
+
+/// What follows when a node is left: the child that is entered, and the node that the next turn leaves.
+type Followed = (Option<Entered>, Option<usize>);
 
 pub struct Walk<'a> {
     pub program: &'a Program,
@@ -68,36 +72,51 @@ impl Walk<'_> {
         Ok(if self.counts[i] == 0 { Finished } else { Stays })
     }
 
-    pub fn leave(&mut self, i: usize) -> Result<(), ZeroTimeLoop> {
+    /// The climb from node i. Each turn leaves one node, and says which the next one leaves.
+    pub fn leave(&mut self, i: usize) -> Result<Vec<Turn>, ZeroTimeLoop> {
+        let mut turns = Vec::new();
+        let mut next = Some(i);
+        while let Some(node) = next {
+            let entered;
+            (entered, next) = self.turn(node)?;
+            let left = node as u16;
+            turns.push(Turn { left, entered });
+        }
+        Ok(turns)
+    }
+
+    /// One turn: node i is left, by a look at its parent.
+    fn turn(&mut self, i: usize) -> Result<Followed, ZeroTimeLoop> {
         let Some(parent) = self.tree.parents[i] else {
-            return Ok(());
+            return Ok((None, None));
         };
         match self.program.kind(parent) {
             SEQ => self.go_on_after(parent, i),
-            IF => self.leave(parent),
-            WHL if self.holds(parent) => self.enter_body(i).map(|_| ()),
-            WHL => self.leave(parent),
+            IF => Ok((None, Some(parent))),
+            WHL if self.holds(parent) => {
+                self.enter_body(i)?;
+                let child = i as u16;
+                Ok((Some(Entered { child, stays: true }), None))
+            }
+            WHL => Ok((None, Some(parent))),
             PAR => {
                 self.counts[parent] -= 1;
-                if self.counts[parent] == 0 {
-                    self.leave(parent)
-                } else {
-                    Ok(())
-                }
+                let over = self.counts[parent] == 0;
+                Ok((None, over.then_some(parent)))
             }
             _ => unreachable!("a leaf is no parent in an accepted program"),
         }
     }
 
-    fn go_on_after(&mut self, seq: usize, i: usize) -> Result<(), ZeroTimeLoop> {
+    /// The next child is entered alone. Where it finishes, leaving it is a turn of its own.
+    fn go_on_after(&mut self, seq: usize, i: usize) -> Result<Followed, ZeroTimeLoop> {
         let next = self.tree.children[seq].iter().copied().find(|&c| c > i);
-        match next {
-            None => self.leave(seq),
-            Some(child) => match self.enter(child)? {
-                Stays => Ok(()),
-                Finished => self.leave(child),
-            },
-        }
+        let Some(next) = next else {
+            return Ok((None, Some(seq)));
+        };
+        let stays = self.enter(next)? == Stays;
+        let child = next as u16;
+        Ok((Some(Entered { child, stays }), (!stays).then_some(next)))
     }
 
     fn holds(&self, i: usize) -> bool {
