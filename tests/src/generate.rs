@@ -1,5 +1,6 @@
 //! Random cases. Every function takes its numbers from a `Random` and nothing else.
 
+mod climbing;
 mod damage;
 mod expressions;
 mod faults;
@@ -14,6 +15,7 @@ mod state;
 mod values;
 mod widths;
 
+pub use climbing::climbing;
 pub use damage::{any_program, changes, damage, rubbish, tight_limits};
 pub use faults::{places, spoil};
 pub use files::{buffers, bytes_of, damage_file, laid_out, words_of};

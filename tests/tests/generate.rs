@@ -28,6 +28,18 @@ fn all_are_accepted() {
 }
 
 #[test]
+fn climbing_programs_are_accepted() {
+    let random = &mut Random::new(510);
+    for _ in 0..5_000 {
+        let nodes = random.between(1, 100);
+        let levels = random.between(1, MOST_DEPTH);
+        let (program, _) = generate::climbing(random, nodes, levels);
+        assert_eq!(reference::check(&program).number, 0, "{program:?}");
+        assert!(program.node_count() <= nodes, "{program:?}");
+    }
+}
+
+#[test]
 fn shapes() {
     let mut met = BTreeMap::<String, usize>::new();
     let mut meet = |what: String| *met.entry(what).or_default() += 1;

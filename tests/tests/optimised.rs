@@ -96,6 +96,19 @@ fn damaged_states_and_programs() {
     tally.demand(&[0, 1, 2, 3, 4, 5, 6, 11], 500);
 }
 
+#[test]
+fn long_climbs() {
+    let random = &mut Random::new(611);
+    let tally = &mut Tally::new("optimised, long climbs");
+    while tally.total() < 20_000 {
+        let nodes = random.between(1, 80);
+        let levels = random.pick(&[3, 8, 32]);
+        let (program, state) = generate::climbing(random, nodes, levels);
+        tally.meet(ask(random, &program, &state).0);
+    }
+    tally.demand(&[0, 7], 1_000);
+}
+
 /// The ended state of a program, with lists as long as they should be.
 fn ended(program: &Program) -> State {
     State {
