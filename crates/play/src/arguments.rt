@@ -12,7 +12,14 @@ use std::rt::Env;
 const ARGUMENT: usize = 4096;
 
 // The most arguments there may be, the program's name among them.
-const MOST: usize = 4;
+const MOST: usize = 5;
+
+// The word that asks for the climbs.
+const CLIMBS: &[u8] = b"--climbs";
+
+const TOO_MANY: Error = Error::Arguments(
+    "give a paper, an order, cycles and --climbs at most, as in ./play 3 down 2 --climbs.",
+);
 
 // What is done with a paper.
 #[derive(Drop)]
@@ -80,17 +87,20 @@ fn is_write(text: &[u8]) -> bool {
 }
 
 fn play_in_order(alloc: Global, order: &[u8], cycles: Option<u16>) -> Result<Job, Error> {
-    let order = Some(order_in(alloc, order)?);
-    Ok(Job::Play(Asked { order, cycles }))
+    Ok(Job::Play(Asked {
+        order: Some(order_in(alloc, order)?),
+        cycles,
+        climbs: false,
+    }))
 }
 
-fn second_argument(rt: &(impl Env + AllocGlobal)) -> Result<Vec<u8>, Error> {
-    argument(rt, 2, "the book is too long.")
+fn order_at(rt: &(impl Env + AllocGlobal), i: usize) -> Result<Vec<u8>, Error> {
+    argument(rt, i, "the book is too long.")
 }
 
 // After a paper, its order.
-fn job_of_two(rt: &(impl Env + AllocGlobal)) -> Result<Job, Error> {
-    let second = second_argument(rt)?;
+fn job_of_two(rt: &(impl Env + AllocGlobal), second: usize) -> Result<Job, Error> {
+    let second = order_at(rt, second)?;
     if is_write(&second) {
         return Err(Error::Arguments("name the file to write, as in ./play 3 --write swap.words."));
     }
@@ -98,9 +108,9 @@ fn job_of_two(rt: &(impl Env + AllocGlobal)) -> Result<Job, Error> {
 }
 
 // After a paper, its order and cycles, or the file to write.
-fn job_of_three(rt: &(impl Env + AllocGlobal)) -> Result<Job, Error> {
-    let second = second_argument(rt)?;
-    let third = argument(rt, 3, "the last argument is too long.")?;
+fn job_of_three(rt: &(impl Env + AllocGlobal), second: usize, third: usize) -> Result<Job, Error> {
+    let second = order_at(rt, second)?;
+    let third = argument(rt, third, "the last argument is too long.")?;
     if is_write(&second) {
         return Ok(Job::Write(third));
     }
@@ -108,19 +118,50 @@ fn job_of_three(rt: &(impl Env + AllocGlobal)) -> Result<Job, Error> {
     play_in_order(rt.alloc(), &second, Some(cycles))
 }
 
+// Whether argument i is the word that asks for the climbs.
+fn is_climbs(rt: &impl Env, i: usize) -> bool {
+    let mut bytes = [0u8; CLIMBS.len()];
+    rt.arg(i, &mut bytes).is_ok() & (bytes.as_slice() == CLIMBS)
+}
+
+// The same, with the climbs shown: a paper that is written has none.
+fn with_climbs(job: Job) -> Result<Job, Error> {
+    match job {
+        Job::Play(asked) => Ok(Job::Play(Asked {
+            climbs: true,
+            ..asked
+        })),
+        Job::Write(_) => Err(Error::Arguments(
+            "--climbs is for playing a paper, and not for --write.",
+        )),
+    }
+}
+
+// After a paper, what is asked for: the word for the climbs may stand at any place among the other arguments.
+fn job_of(rt: &(impl Env + AllocGlobal), count: usize) -> Result<Job, Error> {
+    let others: Vec<usize> = (2..count)
+        .filter(|i| !is_climbs(rt, *i))
+        .collect(rt.alloc())?;
+    let job = match others.as_slice() {
+        [] => Job::Play(Asked::default()),
+        [second] => job_of_two(rt, *second)?,
+        [second, third] => job_of_three(rt, *second, *third)?,
+        _ => return Err(TOO_MANY),
+    };
+    match (2..count).filter(|i| is_climbs(rt, *i)).count() {
+        0 => Ok(job),
+        1 => with_climbs(job),
+        _ => Err(Error::Arguments("--climbs is given more than once.")),
+    }
+}
+
 // What the arguments ask for, if there are any.
 pub fn asked_task(rt: &(impl Env + AllocGlobal)) -> Result<Option<Task>, Error> {
-    let job = match arg_count(rt) {
-        Some(0..=1) => return Ok(None),
-        Some(2) => Job::Play(Asked::default()),
-        Some(3) => job_of_two(rt)?,
-        Some(_) => job_of_three(rt)?,
-        None => {
-            return Err(Error::Arguments(
-                "give a paper, an order and a number of cycles at most, as in ./play 3 down 2.",
-            ));
-        }
-    };
+    let count = arg_count(rt).ok_or(TOO_MANY)?;
+    if count < 2 {
+        return Ok(None);
+    }
+    let job = job_of(rt, count)?;
     let paper = argument(rt, 1, "the name of the paper is too long.")?;
     Ok(Some(Task { paper, job }))
 }

@@ -1,24 +1,25 @@
 // Plays a paper: begin, and then run, a cycle at a time, so that each cycle is a row of the table. Runs compose, so
 // these are the cycles of one run.
 use super::answer::{Worked, print_begin_refused, print_entries, print_run_refused, print_worked};
+use super::climbs::Climbs;
 use super::layout::Paper;
 use super::line::Output;
 use super::machine;
-use super::order::Order;
+use super::playing::Plan;
 use super::state::State;
 use super::table::Table;
 use player::Stopped;
 use program::Refusal;
 use std::fmt;
 
-// How a paper is played: the order, the cycles asked, and the table.
+// A paper that is played, with the table, and with the climbs where they are shown.
 #[derive(Drop)]
 struct Run<'a> {
     out: Output,
     paper: &'a Paper,
-    order: &'a Order,
-    cycles: u16,
+    plan: &'a Plan,
     table: Table,
+    climbs: Option<Climbs<'a>>,
 }
 
 // A run that was refused at a cycle, with the cycle's entries.
@@ -32,7 +33,22 @@ struct Refused {
 type Answer = Result<u16, Refused>;
 
 impl Run<'_> {
-    // Works a cycle by its entries and prints its row, with the state before it, unless it is refused.
+    // The row of a cycle that was worked, with the state before it, and its climbs.
+    fn print_cycle(
+        &self,
+        cycle: u16,
+        before: &State,
+        after: &State,
+        entries: &[u16],
+    ) -> fmt::Result {
+        self.table.print_row(cycle, before, entries)?;
+        match self.climbs {
+            Some(climbs) => climbs.print(before, after, entries),
+            None => Ok(()),
+        }
+    }
+
+    // Works a cycle by its entries and prints it, unless it is refused.
     fn work_cycle(
         &self,
         cycle: u16,
@@ -42,7 +58,7 @@ impl Run<'_> {
         let before = state.clone()?;
         let outcome = machine::run(self.paper, state, entries);
         if outcome.is_ok() {
-            self.table.print_row(cycle, &before, entries)?;
+            self.print_cycle(cycle, &before, state, entries)?;
         }
         Ok(outcome)
     }
@@ -50,21 +66,22 @@ impl Run<'_> {
     // Works cycles up to the number asked, and stops before that at an ended state or a refused cycle.
     fn work_cycles(&self, state: &mut State) -> Result<Answer, fmt::Error> {
         let alloc = self.out.alloc;
-        let mut book = self.order.book();
-        for worked in 0..self.cycles {
+        let Plan { order, cycles, .. } = self.plan;
+        let mut book = order.book();
+        for worked in 0..*cycles {
             let active = state.active(alloc)?;
             if active.is_empty() {
                 return Ok(Ok(worked));
             }
             let (next, later) = book.split_at(active.len().min(book.len()));
-            let entries = self.order.entries(alloc, &active, next)?;
+            let entries = order.entries(alloc, &active, next)?;
             if let Err(refusal) = self.work_cycle(worked, state, &entries)? {
                 let stopped = Stopped { refusal, worked };
                 return Ok(Err(Refused { stopped, entries }));
             }
             book = later;
         }
-        Ok(Ok(self.cycles))
+        Ok(Ok(*cycles))
     }
 
     fn print_worked(&self, worked: u16, state: &State, active: &[u16]) -> fmt::Result {
@@ -98,17 +115,32 @@ impl Run<'_> {
         }
     }
 
-    fn print(&self, state: &mut State) -> fmt::Result {
+    fn print_head(&self) -> fmt::Result {
         self.out.say(
             "Each row is the state before a cycle, with the active statements in the order worked.",
         )?;
-        self.table.print_head()?;
+        if let Some(climbs) = self.climbs {
+            climbs.print_head()?;
+        }
+        self.table.print_head()
+    }
+
+    fn print(&self, state: &mut State) -> fmt::Result {
+        self.print_head()?;
         let answer = self.work_cycles(state)?;
         self.print_end(answer, state)
     }
 }
 
-pub fn play(out: Output, paper: &Paper, order: &Order, cycles: u16) -> fmt::Result {
+fn climbs_of<'a>(out: Output, paper: &'a Paper, plan: &Plan) -> Option<Climbs<'a>> {
+    if plan.climbs {
+        Climbs::new(out, paper.program())
+    } else {
+        None
+    }
+}
+
+pub fn play(out: Output, paper: &Paper, plan: &Plan) -> fmt::Result {
     let mut state = State::new(out.alloc, paper)?;
     if let Err(refusal) = machine::begin(paper, &mut state) {
         return print_begin_refused(out, refusal);
@@ -117,9 +149,9 @@ pub fn play(out: Output, paper: &Paper, order: &Order, cycles: u16) -> fmt::Resu
     let run = Run {
         out,
         paper,
-        order,
-        cycles,
+        plan,
         table,
+        climbs: climbs_of(out, paper, plan),
     };
     run.print(&mut state)
 }

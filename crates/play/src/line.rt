@@ -37,7 +37,12 @@ impl Line {
 
     // How many bytes there is room for.
     pub fn room(&self) -> usize {
-        WIDTH.saturating_sub(self.text.len())
+        self.room_to(WIDTH)
+    }
+
+    // How many there is room for before a column.
+    pub fn room_to(&self, column: usize) -> usize {
+        column.saturating_sub(self.text.len())
     }
 
     pub fn put(&mut self, text: impl Display + Drop) {
@@ -57,7 +62,7 @@ impl Line {
 
     // Blanks up to a column.
     pub fn pad_to(&mut self, column: usize) {
-        let blanks = column.saturating_sub(self.text.len());
+        let blanks = self.room_to(column);
         self.put(format_args!("{:blanks$}", ""));
     }
 

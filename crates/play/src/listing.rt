@@ -1,4 +1,5 @@
 // The program as an indented listing: a line for each node, with its number, and the widths that are not 16.
+use super::climbs;
 use super::expression::Expression;
 use super::layout::Paper;
 use super::line::{Line, Output};
@@ -22,6 +23,8 @@ struct Listing<'a> {
     paper: &'a Paper,
     depths: Vec<u16>,
     named: Vec<bool>,
+    // Whether the climbs are shown below.
+    climbs: bool,
 }
 
 fn indent(depth: u16) -> usize {
@@ -72,7 +75,19 @@ impl Listing<'_> {
         self.out.end(line)
     }
 
+    // Notes the expressions that the climbs name, whose lines have other room.
+    fn note_in_climbs(&mut self, statement: Statement) -> fmt::Result {
+        if !(self.climbs & statement.is_leaf()) {
+            return Ok(());
+        }
+        if let Some(expression) = climbs::expression_of(self.paper.program(), statement)? {
+            expression.note_named(&mut self.named);
+        }
+        Ok(())
+    }
+
     fn print_statement(&mut self, i: u16, depth: u16, statement: Statement) -> fmt::Result {
+        self.note_in_climbs(statement)?;
         let mut line = self.out.line();
         line.put(format_args!("{i:>4}"));
         line.put_at(indent(depth), statement);
@@ -107,7 +122,7 @@ impl Listing<'_> {
         self.end_expression(e, &mut line)
     }
 
-    // The expressions that the listing names, from the last to the first: those that they name in turn are lower.
+    // The expressions that are named, from the last to the first: those that they name in turn are lower.
     fn print_named(&mut self) -> fmt::Result {
         for e in (0..self.paper.sizes.exprs).rev() {
             if self.named.get(usize::from(e)) == Some(&true) {
@@ -129,12 +144,14 @@ fn print_widths(out: Output, widths: &[u16]) -> fmt::Result {
     Ok(())
 }
 
-pub fn print(out: Output, paper: &Paper) -> fmt::Result {
+// A listing, above climbs or without them.
+pub fn print(out: Output, paper: &Paper, climbs: bool) -> fmt::Result {
     let mut listing = Listing {
         out,
         paper,
         depths: Vec::new(out.alloc),
         named: vec![in out.alloc; false; EXPRS_MAX]?,
+        climbs,
     };
     listing.print_nodes()?;
     listing.print_named()?;

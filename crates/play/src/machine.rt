@@ -3,7 +3,7 @@ use super::errors::Error;
 use super::layout::{Paper, list_words};
 use super::line::Line;
 use super::state::State;
-use program::Refusal;
+use program::{Accepted, Refusal};
 use std::alloc::Global;
 
 // The cycles that are asked for where nothing says how many: a file of words does not.
@@ -30,6 +30,19 @@ pub fn run(paper: &Paper, state: &mut State, entries: &[u16]) -> Result<(), Refu
     )
     .map(|_| ())
     .map_err(|stopped| stopped.refusal)
+}
+
+// Takes a turn of a climb, in the marks and counts of a walk: a node is left. Gives the node that the next turn leaves, if
+// there is one. Whether a loop goes round without taking a cycle is left out: a cycle that is worked has none.
+pub fn take_turn(program: &Accepted, walk: &mut State, node: u16) -> Result<Option<u16>, Refusal> {
+    player::take_turn(
+        program,
+        &walk.values,
+        &mut walk.marks,
+        &mut walk.counts,
+        node,
+    )
+    .map(|turn| turn.next)
 }
 
 // The paper of a file of words. There is no book.

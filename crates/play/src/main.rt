@@ -2,13 +2,15 @@
 // writes the paper to a file of words.
 //   play                           plays the first of the papers that come with it, and lists the others
 //   play PAPER [ORDER [CYCLES]]    plays a paper; CYCLES are asked in place of the paper's own number
+//   play PAPER .. --climbs         shows the climbs of each cycle too; it may stand anywhere after PAPER
 //   play PAPER --write FILE        writes a paper to a new file of words
 // PAPER is the number of a paper that comes with the program, or a file: a text, or a file of words. ORDER is up, down,
-// or a book such as 2,1.
+// or a book such as 2,1. A climb is how a statement that completes is left, turn by turn.
 #![tactic(auto)]
 
 mod answer; // the answer in words
 mod arguments; // the arguments, and what they ask for
+mod climbs; // the climbs of a cycle
 mod cycles; // begin, and run a cycle at a time
 mod decimal; // decimal text into words
 mod errors; // what is wrong, in one line
@@ -26,6 +28,7 @@ mod state; // the state of a run
 mod statement; // a statement of a program
 mod table; // the table
 mod text; // counts and lists in words
+mod turn; // a turn of a climb
 
 use arguments::{Job, Task};
 use decimal::word_of;

@@ -8,11 +8,20 @@ use paper::FileSizes;
 use std::alloc::AllocError;
 use std::fmt;
 
-// What is asked for in place of the paper's own order and cycles.
+// What is asked for: an order and cycles in place of the paper's own, and whether the climbs are shown.
 #[derive(Default, Drop)]
 pub struct Asked {
     pub order: Option<Order>,
     pub cycles: Option<u16>,
+    pub climbs: bool,
+}
+
+// How a paper is played: the order, the cycles asked, and whether the climbs are shown.
+#[derive(Drop)]
+pub struct Plan {
+    pub order: Order,
+    pub cycles: u16,
+    pub climbs: bool,
 }
 
 // The paper's book, or ascending where it has none.
@@ -24,36 +33,47 @@ fn own_order(paper: &Paper) -> Result<Order, AllocError> {
     }
 }
 
-// Order and cycles go down beside each other to `Run`, which has both: a struct of the two would be taken apart there.
-fn print_sizes(out: Output, sizes: FileSizes, cycles: u16, order: &Order) -> fmt::Result {
+impl Plan {
+    fn new(paper: &Paper, asked: Asked) -> Result<Plan, AllocError> {
+        let Asked {
+            order,
+            cycles,
+            climbs,
+        } = asked;
+        let order = match order {
+            Some(order) => order,
+            None => own_order(paper)?,
+        };
+        Ok(Plan {
+            order,
+            cycles: cycles.unwrap_or(paper.cycles),
+            climbs,
+        })
+    }
+}
+
+fn print_sizes(out: Output, sizes: FileSizes, plan: &Plan) -> fmt::Result {
     let counts = [
         Counted::new(sizes.nodes, "node"),
         Counted::new(sizes.exprs, "expression"),
         Counted::new(sizes.vars, "variable"),
         Counted::new(sizes.chans, "channel"),
     ];
+    let order = &plan.order;
     out.say(format_args!(
         "{}; {} asked, {order}",
         Joined::new(&counts, 4, ", "),
-        Counted::new(cycles, "cycle"),
+        Counted::new(plan.cycles, "cycle"),
     ))
-}
-
-fn print_and_play(out: Output, paper: &mut Paper, order: &Order, cycles: u16) -> fmt::Result {
-    out.end(&mut paper.heading)?;
-    print_sizes(out, paper.sizes, cycles, order)?;
-    out.say("")?;
-    listing::print(out, paper)?;
-    out.say("")?;
-    cycles::play(out, paper, order, cycles)
 }
 
 // Prints and plays a paper.
 pub fn play(out: Output, mut paper: Paper, asked: Asked) -> fmt::Result {
-    let cycles = asked.cycles.unwrap_or(paper.cycles);
-    let order = match asked.order {
-        Some(order) => order,
-        None => own_order(&paper)?,
-    };
-    print_and_play(out, &mut paper, &order, cycles)
+    let plan = Plan::new(&paper, asked)?;
+    out.end(&mut paper.heading)?;
+    print_sizes(out, paper.sizes, &plan)?;
+    out.say("")?;
+    listing::print(out, &paper, plan.climbs)?;
+    out.say("")?;
+    cycles::play(out, &paper, &plan)
 }

@@ -61,6 +61,7 @@ pub fn print_papers(out: Output) -> fmt::Result {
     out.say(
         "A file is a text or a file of words; ./play 3 --write FILE writes paper 3 to a new file of words.",
     )?;
+    out.say("./play 3 --climbs shows how each statement that completes is left, turn by turn.")?;
     for (paper, text) in (1..u16::MAX).zip(PAPERS.iter()).skip(1) {
         print_paper(out, paper, text)?;
     }

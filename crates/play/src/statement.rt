@@ -6,7 +6,7 @@ use std::fmt;
 pub struct Statement(pub Node);
 
 impl Statement {
-    fn kind(self) -> Result<Kind, UnknownKind> {
+    pub fn kind(self) -> Result<Kind, UnknownKind> {
         Kind::try_from(self.0.kind)
     }
 
@@ -17,6 +17,25 @@ impl Statement {
 
     pub fn is_if(self) -> bool {
         self.kind() == Ok(Kind::If)
+    }
+
+    pub fn is_leaf(self) -> bool {
+        matches!(self.kind(), Ok(Kind::Leaf(_)))
+    }
+
+    // Whether it is an IN or an OUT.
+    pub fn is_on_channel(self) -> bool {
+        matches!(self.kind(), Ok(Kind::Leaf(Leaf::In | Leaf::Out)))
+    }
+
+    // Whether the two are an IN and an OUT on one channel.
+    pub fn meets(self, other: Statement) -> bool {
+        let are_partners = matches!(
+            (self.kind(), other.kind()),
+            (Ok(Kind::Leaf(Leaf::In)), Ok(Kind::Leaf(Leaf::Out)))
+                | (Ok(Kind::Leaf(Leaf::Out)), Ok(Kind::Leaf(Leaf::In)))
+        );
+        are_partners & (self.0.a == other.0.a)
     }
 
     // The expression at its end.
