@@ -33,7 +33,7 @@ pub fn run(paper: &Paper, state: &mut State, entries: &[u16]) -> Result<(), Refu
 }
 
 // Takes a turn of a climb, in the marks and counts of a walk: a node is left. Gives the node that the next turn leaves, if
-// there is one. Whether a loop goes round without taking a cycle is left out: a cycle that is worked has none.
+// there is one. Whether it met a zero-time loop is not handed on: a cycle that is worked has none.
 pub fn take_turn(program: &Accepted, walk: &mut State, node: u16) -> Result<Option<u16>, Refusal> {
     player::take_turn(
         program,

@@ -3,7 +3,7 @@ use Rattle.std.proofs.Common.{◌≡◌, ℕ, suc, ◌<◌, ◌≤◌, ◌+◌, 
 use Rattle.std.proofs.Common.{add-one, length-set}
 use Rattle.std.proofs.Math.Option.{Option as Parent, none, some}
 use Rattle.semantics.specs.Program.{node_count, kind_at, end_at, parent_at, a_at, is_leaf}
-use Rattle.semantics.specs.Program.Kind.{SEQ, PAR, IF, WHL}
+use Rattle.semantics.specs.Program.Kind.{SEQ, PAR, WHL}
 use Rattle.semantics.specs.Facts.{NodesOk}
 use Rattle.semantics.specs.Parents.{parent}
 use Rattle.semantics.specs.Tree.{Stmt, children_from, statements, statement_at}
@@ -11,7 +11,7 @@ use Rattle.semantics.specs.Walk.{Walk, mark, set_count, child_count, lower, fini
 use Rattle.semantics.specs.Walk.{lower_if_finished, then_enter, enter, enter_in_turn, enter_each}
 use Rattle.semantics.specs.Walk.Entered.{stays}
 use Rattle.semantics.specs.Climb.{next_if_finished, turn}
-use Rattle.semantics.specs.Climb.Turn.{leaves_next, over}
+use Rattle.semantics.specs.Climb.Turn.{over}
 use Rattle.semantics.proofs.Lists.ParentLaws.{is_parent}
 use Rattle.semantics.proofs.Tree.NodeLaws.{Placement, facts, end_after, end_fits, end_within_lem}
 use Rattle.semantics.proofs.Tree.ChildLaws.{some_child, whl_only_child}
@@ -151,7 +151,7 @@ module _ (program : AcceptedCode) where
       pub each_none : end_at nodes h ≤ j → enter_each holds h (children_from nodes j h) w ≡ w
       each_none n = enter_each-none nodes ok holds j (end_at nodes h) w h n
 
-    -- a turn that leaves node i, by the kind of its parent: a child is entered, or the parent is left next
+    -- a turn that leaves node i, by the parent in the node's record; the other laws of turns are TurnLaws of semantics
     module _ (i : ℕ) (w : Walk) (l : i < node_count nodes) where
       pub root_ends : parent_at nodes i ≡ 65535 → turn holds nodes i w ≡ over w
       root_ends e = turn_none holds nodes i w (no_parent_read i l e).1
@@ -161,23 +161,9 @@ module _ (program : AcceptedCode) where
       h = parent_at nodes i
 
       module _ (p : parent nodes i ≡ some h) where
-        pub seq_goes_on : kind_at nodes h ≡ SEQ → end_at nodes i < end_at nodes h
-            → turn holds nodes i w
-            ≡ next_if_finished (end_at nodes i) (enter holds (statement_at nodes (end_at nodes i)) w)
-        seq_goes_on k n = turn_seq_next holds nodes i h w p k n
-
-        pub seq_ends : kind_at nodes h ≡ SEQ → end_at nodes h ≤ end_at nodes i → turn holds nodes i w ≡ leaves_next h w
-        seq_ends k n = turn_seq_last holds nodes i h w p k n
-
         pub par_ends : kind_at nodes h ≡ PAR
             → turn holds nodes i w ≡ next_if_finished h (finished_at_zero h (lower h w))
         par_ends k = turn_par holds nodes i h w p k
-
-        pub if_ends : kind_at nodes h ≡ IF → turn holds nodes i w ≡ leaves_next h w
-        if_ends k = turn_if holds nodes i h w p k
-
-        pub whl_ends : kind_at nodes h ≡ WHL → holds (a_at nodes h) ≡ false → turn holds nodes i w ≡ leaves_next h w
-        whl_ends k f = turn_whl_false holds nodes i h w p k f
 
         pub whl_goes_on : kind_at nodes h ≡ WHL → holds (a_at nodes h) ≡ true
             → turn holds nodes i w ≡ next_if_finished h (loop_if_finished (enter holds (statement_at nodes (h + 1)) w))
@@ -204,8 +190,8 @@ pub ruleset each = (length-set, node_ends, first_child, par_entered, each_next, 
 
 pub ruleset one_node = (leaf_entered, entered_alike)
 
-pub ruleset seq_left = (family, seq_goes_on, seq_ends)
+pub ruleset seq_left = (family, turn_seq_next, turn_seq_last)
 
-pub ruleset body_left = (family, first_child, if_ends, whl_ends, whl_goes_on, entered_alike)
+pub ruleset body_left = (family, first_child, turn_if, turn_whl_false, whl_goes_on, entered_alike)
 
 pub ruleset child_left = (parents, par_ends, root_ends)

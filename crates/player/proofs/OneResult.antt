@@ -7,10 +7,10 @@ use mathlib.Core.Bool.{Bool, true, false}
 use mathlib.Core.List.{List}
 use Prim.Native.Nat.{ℕ, ◌+◌, ◌*◌}
 use native.Mathlib.Omega.{arith}
-use Rattle.semantics.specs.Program.{Program}
 use Rattle.std.specs.Prelude.{Result, Ok, Err, Option, Some, None}
+use Rattle.semantics.specs.Program.{Program}
 use Rattle.semantics.specs.State.{State, lengths_ok}
-use Rattle.semantics.specs.Climb.{Turn as Rules}
+use Rattle.semantics.specs.Climb.{Turn as RulesTurn}
 use Rattle.semantics.specs.Climb.Turn.{leaves_next, over}
 use Rattle.semantics.specs.Calls.{Answer, run_answer}
 use Rattle.semantics.proofs.Lists.OneResult.{OneResult, determined}
@@ -72,8 +72,8 @@ pub record TurnResult : Type 0 where
 abbrev pub TurnGives : Program → State → ℕ → TurnResult → Type 0
 TurnGives P s i r = TurnAnswer P s i r.answer r.marks r.counts
 
--- what is handed back, where question 5 is answered no, and of what the rules' turn comes to
-abbrev turn_result : State → Bool → Rules → TurnResult
+-- what is handed back: where question 5 is answered no, and else by what the rules' turn comes to
+abbrev turn_result : State → Bool → RulesTurn → TurnResult
 turn_result s false t = record { answer = Err Lengths; marks = s.marks; counts = s.counts }
 turn_result s true (leaves_next j w) =
     record { answer = Ok (record { next = Some j; looped = w.looped }); marks = w.marks; counts = w.counts }

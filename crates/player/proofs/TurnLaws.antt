@@ -5,7 +5,7 @@ use Rattle.semantics.specs.State.{State, lengths_ok}
 use Rattle.semantics.specs.Walk.{Walk, leave}
 use Rattle.semantics.specs.Climb.{Turn, turn, turns, Climbs}
 use Rattle.semantics.specs.Climb.Turn.{leaves_next}
-use Rattle.semantics.proofs.Walks.TurnLaws.{Going, turns_none, turns_more, going_none, going_more, going_few, climb_few, climb_leaves}
+use Rattle.semantics.proofs.Walks.TurnLaws.{Going, turns_none, turns_more, going_none, going_more, going_few, climb_leaves}
 use Rattle.program.specs.Accepted.{accepted_in}
 use Rattle.program.specs.declared.accepted.Accepted.{Accepted as AcceptedCode}
 use Rattle.player.specs.declared.memo.Memo.{Memo}

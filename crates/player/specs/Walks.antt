@@ -93,7 +93,7 @@ abbrev pub turn_to : Option ℕ → Walk → Turn
 turn_to None w = over w
 turn_to (Some i) w = leaves_next i w
 
--- The rules' turn, which leaves node i, gives node r and leaves these lists.
+-- By the rules' turn that leaves node i, node r is left next, or none, with these lists.
 pub record Turned (P : Program) (before : Work) (i : ℕ) (w : Walk) (r : Option ℕ) (marks counts : List ℕ) (work : Work)
     : Type 0 where
   pub right : turn (holds_now P before.memo) P.nodes i w ≡ turn_to r (walk_in marks counts work)

@@ -1,4 +1,4 @@
-// What a run, or the entering of node 0, starts with in `work`.
+// What a run, a turn by itself, or the entering of node 0 starts with in `work`.
 ghost use Rattle.std.specs.Prelude.{◌≡◌, ◌≤◌, length, replicate, ℕ, List};
 ghost use Rattle.semantics.specs.Program.{node_count};
 ghost use Rattle.program.specs.Accepted.{accepted_in};
@@ -49,7 +49,7 @@ fn fill_masks(program: &Accepted, work: &mut Work)
     }
 }
 
-// All that a run hands to its first cycle.
+// All that a run hands to its first cycle, and a turn by itself starts with.
 #[tactic(auto, using(crate::proofs::AcceptedLaws::sizes_fit))]
 pub fn fill(program: &Accepted, values: &[u16], marks: &[u8], work: &mut Work)
     requires values_len { length values.now ≡ (accepted_in program.now).variables }

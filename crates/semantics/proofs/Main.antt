@@ -162,7 +162,8 @@ pub climb_in_turns : (P : Program) → check_number P ≡ 0
     → turns holds P.nodes (node_count P.nodes) (leaves_next i w) ≡ over (leave holds P.nodes i w)
 climb_in_turns = TurnLaws.climb_in_turns
 
--- No climb takes more than N turns: where one is over after n turns and no fewer, n is at most N.
+-- No climb takes more than N turns: where one is over after n turns and no fewer, n is at most N, and what is left then
+-- is what leaving the node gives.
 pub climb_bound : (P : Program) → check_number P ≡ 0
     → (holds : ℕ → Bool) (i : ℕ) → i < node_count P.nodes → (w : Walk)
     → (n : ℕ) (r : Walk) → Climbs holds P.nodes i w n r → (n ≤ node_count P.nodes) × (r ≡ leave holds P.nodes i w)

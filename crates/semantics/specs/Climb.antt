@@ -1,5 +1,5 @@
 -- Request 4, the climb as a loop: leaving one node in each turn, as "The plain machine" words it. That turns one after
--- another are `leave` of Walk, and that N are enough, is the theorem `climb_in_turns`.
+-- another are `leave` of Walk is the theorem `climb_in_turns`, and that no climb takes more than N is `climb_bound`.
 use Rattle.std.specs.Prelude.{◌≡◌, Bool, true, false, cond, List, ℕ, zero, suc, ◌<◌, ltb}
 use Rattle.std.proofs.Math.Option.{Option, none, some}
 use Rattle.semantics.specs.Program.{Kind, kind_at, end_at, a_at}
@@ -14,7 +14,7 @@ pub data Turn : Type 0 where
   leaves_next : ℕ → Walk → Turn
   over : Walk → Turn
 
--- Where what was entered finished, node i is left next; where it stays, the climb is over.
+-- Where the outcome is that it finished, node i is left next; where it stays, the climb is over.
 abbrev pub next_if_finished : ℕ → Entered → Turn
 next_if_finished i (finished w) = leaves_next i w
 next_if_finished i (stays w) = over w
@@ -27,9 +27,10 @@ module _ (holds : ℕ → Bool) (nodes : List ℕ) where
   abbrev pub enter_node : ℕ → Walk → Entered
   enter_node i = enter holds (statement_at nodes i)
 
-  -- Node i, a child of node h of a kind, is left. A SEQ enters its next child, which stands where node i ends, and is
-  -- left where there is none. An IF is left. A WHL that is true enters its child again, and one that is false is left.
-  -- A PAR counts one thread fewer, and is left at 0. No other kind is a parent.
+  -- Node i, a child of node h of a kind, is left. A SEQ enters its next child, which stands where node i ends and is left
+  -- next if it finishes; with no next child the SEQ is left. An IF is left. A WHL that is true enters its child again,
+  -- which is a zero-time loop if it finishes; one that is false is left. A PAR counts one thread fewer, and is left at
+  -- 0. No other kind is a parent.
   unfoldable pub turn_under : Kind → ℕ → ℕ → Walk → Turn
   turn_under SEQ h i w =
       let next = end_at nodes i in

@@ -91,7 +91,7 @@ abbrev pub same_walk : Walk → Walk → Bool
 same_walk v w =
     same_list v.marks w.marks && same_list v.counts w.counts && eqb (bit v.looped) (bit w.looped)
 
--- The climb goes on with the first node, and so on, and is over after the last.
+-- The climb goes on with the nodes of the list, one after another, and is over after the last.
 abbrev pub leaves_in_turn : (ℕ → Walk → Turn) → List ℕ → Turn → Walk → Bool
 leaves_in_turn turn_of [] (leaves_next j w) after = false
 leaves_in_turn turn_of [] (over w) after = same_walk w after
@@ -497,4 +497,7 @@ samples =
     (gives 0 1 [] loop_marks (loop_counts 2))
     ∷ climb thread_loop [] 5 (4 ∷ []) (loop_counts 2) (walk_of_lists (replicate 8 0) (loop_counts 1))
     ∷ climb thread_loop [] 3 (2 ∷ 6 ∷ 1 ∷ []) (loop_counts 1) (walk_of_lists loop_marks (loop_counts 2))
+    -- a WHL that is false is left; one that is true, and finishes at once, is a zero-time loop, and is left as well
+    ∷ climb loop_later (0 ∷ []) 3 (2 ∷ 1 ∷ 0 ∷ []) (replicate 4 0)
+    (record { marks = replicate 4 0; counts = replicate 4 0; looped = true })
     ∷ []

@@ -94,7 +94,7 @@ module _ (holds : ℕ → Bool) where
 
   -- A child of node h, of a kind, was left. `next` is the node number at which that child ends, so that a next child
   -- would stand there. A SEQ goes on with the rest of its children: leaving one that finished enters the one after it,
-  -- so they are entered in turn (`leave_seq` of proofs/Walks/LeaveLaws says it child by child). A PAR counts one
+  -- so they are entered in turn (`turn` of Climb says it child by child). A PAR counts one
   -- thread fewer and is left with the last, an IF is left, and a WHL enters its child again or is left. No other kind
   -- is a parent.
   unfoldable pub leave_child : List ℕ → Kind → ℕ → ℕ → (Walk → Walk) → Walk → Walk

@@ -1,6 +1,6 @@
 -- The climb as a loop: what a turn comes to, by the kind of the parent, and that turns one after another are `leave`.
--- Every turn leaves a node that has a later place in the order in which a walk of the whole tree leaves the nodes, so
--- that none is left twice, and N turns are enough.
+-- Every turn leaves a node that has a later place than the turn before it, in the order in which a walk of the whole tree
+-- leaves the nodes; so none is left twice, and N turns are enough.
 use mathlib.Core.Path.{◌≡◌, refl, sym, ap, ◌∙◌, subst}
 use mathlib.Core.Bool.{Bool, true, false, true≢false}
 use mathlib.Core.List.{List}
@@ -8,20 +8,20 @@ use mathlib.Core.Option.{Option, none, some}
 use mathlib.Core.Logic.{inl, inr}
 use Prim.Native.Nat.{ℕ, zero, suc, ◌+◌, ◌-◌, ◌≤◌, ◌<◌}
 use native.Mathlib.Omega.{arith}
-use lib.Dec.{ltb}
 use lib.ListN.{length}
 use borrow.Author.Tests.{lt-ltb, le-ltb}
 use Rattle.semantics.specs.Program.{Program, Kind, node_count, kind_at, end_at, a_at}
 use Rattle.semantics.specs.Program.Kind.{SEQ, PAR, IF, WHL, LEAF, UNKNOWN}
-use Rattle.semantics.specs.Parents.{parent, ancestors_below, ancestors, depth}
+use Rattle.semantics.specs.Parents.{parent, ancestors, depth}
 use Rattle.semantics.specs.Walk.{Walk, Entered, lower, finished_at_zero, loop_if_finished, then_leave, leave_child, leave}
 use Rattle.semantics.specs.Walk.Entered.{finished, stays}
 use Rattle.semantics.specs.Climb.{Turn, next_if_finished, is_over, enter_node, turn_under, turn_by, turn, next_turn, turns, Climbs}
 use Rattle.semantics.specs.Climb.Turn.{leaves_next, over}
 use Rattle.semantics.specs.Check.{check_number}
 use Rattle.semantics.specs.Facts.{NodesOk}
-use Rattle.semantics.proofs.Lists.Logic.{cond-at, lt_or_le}
+use Rattle.semantics.proofs.Lists.Logic.{lt_or_le}
 use Rattle.semantics.proofs.Lists.ParentLaws.{is_parent, depth_parent}
+use Rattle.semantics.proofs.Lists.ParentSearch.{depth_low}
 use Rattle.semantics.proofs.Lists.QuestionLaws.{accepted}
 use Rattle.semantics.proofs.Tree.NodeLaws.{end_after, end_fits, end_within_lem, next_sibling}
 use Rattle.semantics.proofs.Walks.LeaveLaws.{leave_none, leave_parent, leave_seq, leave_par, leave_if}
@@ -67,7 +67,7 @@ module _ (holds : ℕ → Bool) (nodes : List ℕ) where
 
 -- ---- turns one after another, in any list
 module _ (holds : ℕ → Bool) (nodes : List ℕ) (t : Turn) where
-  -- no fewer than n turns are enough
+  -- fewer than n turns are not enough
   abbrev pub Going : ℕ → Type 0
   Going n = (m : ℕ) → m < n → is_over (turns holds nodes m t) ≡ false
 
@@ -93,19 +93,12 @@ module _ (holds : ℕ → Bool) (nodes : List ℕ) (t : Turn) where
       ]
 
 -- ---- places: how many nodes a walk of the whole tree leaves before node i
-ancestors_few : (nodes : List ℕ) (i n : ℕ) → length (ancestors_below nodes i n) ≤ n
-unfolding ancestors_below
-ancestors_few nodes i zero = omega arith
-ancestors_few nodes i (suc n) =
-    cond-at (λ (above : List ℕ). length above ≤ suc n) (ltb i (end_at nodes n)) (omega (arith, ancestors_few nodes n n))
-    (omega (arith, ancestors_few nodes i n))
-
 abbrev pub place : List ℕ → ℕ → ℕ
 place nodes i = end_at nodes i - depth nodes i
 
 module _ (nodes : List ℕ) (ok : NodesOk nodes) where
-  depth_fits : (i : ℕ) → i < node_count nodes → depth nodes i ≤ end_at nodes i
-  depth_fits i l = let few = ancestors_few nodes i i in let a = end_after nodes ok i l in omega arith
+  depth_inside : (i : ℕ) → i < node_count nodes → depth nodes i ≤ end_at nodes i
+  depth_inside i l = let few = depth_low nodes i in let a = end_after nodes ok i l in omega arith
 
   place_fits : (i : ℕ) → i < node_count nodes → place nodes i < node_count nodes
   place_fits i l =
@@ -120,7 +113,7 @@ module _ (nodes : List ℕ) (ok : NodesOk nodes) where
   parent_later i h l p =
       let e = end_within_lem nodes ok i h l p in
       let d = depth_parent nodes i h p in
-      let f = depth_fits i l in
+      let f = depth_inside i l in
       omega arith
 
   next_later : (i h : ℕ) → i < node_count nodes → parent nodes i ≡ some h → end_at nodes i < end_at nodes h
@@ -128,7 +121,7 @@ module _ (nodes : List ℕ) (ok : NodesOk nodes) where
   next_later i h l p n m =
       let d = depth_parent nodes i h p in
       let c = depth_parent nodes (end_at nodes i) h (next_sibling nodes ok i h l p n) in
-      let f = depth_fits i l in
+      let f = depth_inside i l in
       let a = end_after nodes ok (end_at nodes i) m in
       omega arith
 
