@@ -10,8 +10,9 @@ const TRUE: u16 = 1;
 
 /// Calls `with` for each program of at most so many nodes.
 pub fn every_program(most: usize, mut with: impl FnMut(Program)) {
-    // By the number of nodes, then by the number of nodes of all statements of a list.
+    // By the number of nodes.
     let mut statements = vec![vec![], vec![Dly]];
+    // By the number of nodes of all statements together.
     let mut lists = vec![vec![vec![]]];
     with(program(&Dly));
     for nodes in 2..=most {

@@ -13,7 +13,7 @@ mod refusals;
 mod widths;
 
 pub use channels::{delayed_out, two_in_on_one_channel, waiting_in_is_no_store};
-pub use climbs::{chain, chain_cycle, skipped, skipped_cycles, thread_loop, thread_loop_cycles};
+pub use climbs::{chain, skipped, thread_loop};
 pub use files::{counter_file, delay_file, files, input_file, refused_program, PaperFile};
 pub use first_fault::first_faults;
 pub use limits::{depth_32, depth_33, n_1024, n_1025};
@@ -136,11 +136,15 @@ pub fn all() -> Vec<Paper> {
 }
 
 pub fn cycles() -> Vec<Cycle> {
-    let chain = vec![chain_cycle()];
-    [skipped_cycles(), chain, thread_loop_cycles()]
-        .into_iter()
-        .flatten()
-        .collect()
+    let chain = vec![climbs::chain_cycle()];
+    [
+        climbs::skipped_cycles(),
+        chain,
+        climbs::thread_loop_cycles(),
+    ]
+    .into_iter()
+    .flatten()
+    .collect()
 }
 
 pub fn refusals() -> Vec<Refusal> {

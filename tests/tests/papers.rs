@@ -1,7 +1,7 @@
 //! The reference against the sample papers.
 
 use pahmozil_tests::answer::Answer;
-use pahmozil_tests::papers::{self, Cycle, Limit, Paper, Refusal};
+use pahmozil_tests::papers::{self, Limit, Paper, Refusal};
 use pahmozil_tests::reference;
 
 fn hold(paper: Paper) {
@@ -39,12 +39,6 @@ fn hold(paper: Paper) {
         assert_eq!(worked, run.worked, "{}: worked", paper.name);
         assert_eq!(after, run.after, "{}: state", paper.name);
     }
-}
-
-fn hold_cycle(cycle: Cycle) {
-    let entries = cycle.entries();
-    let worked = reference::climbs(&cycle.program, &cycle.before, &entries);
-    assert_eq!(worked, Ok((cycle.climbs, cycle.after)), "{}", cycle.name);
 }
 
 fn hold_refusal(refusal: Refusal) {
@@ -213,21 +207,16 @@ fn two_stores_to_one_bit() {
 #[test]
 fn skipped() {
     hold(papers::skipped());
-    papers::skipped_cycles().into_iter().for_each(hold_cycle);
 }
 
 #[test]
 fn chain() {
     hold(papers::chain());
-    hold_cycle(papers::chain_cycle());
 }
 
 #[test]
 fn thread_loop() {
     hold(papers::thread_loop());
-    papers::thread_loop_cycles()
-        .into_iter()
-        .for_each(hold_cycle);
 }
 
 #[test]

@@ -63,7 +63,8 @@ impl<'a> Climbs<'a> {
         self.out.end(&mut line)
     }
 
-    // Leaves a node, and gives the one that is left next, if there is one.
+    // Leaves a node, and gives the one that is left next, if there is one. The lists are those of the run, so that question 5,
+    // the one that is asked, is answered yes.
     fn print_turn(self, node: u16, walk: &mut State) -> Result<Option<u16>, fmt::Error> {
         let Ok(next) = machine::take_turn(&self.program, walk, node) else {
             return Ok(None);

@@ -84,22 +84,29 @@ fn cycle(
         marks: vec![0; state.marks.len()],
         counts: state.counts.clone(),
     };
+    let climbs = visit(&mut walk, &marked, entries)?;
+    let (marks, counts) = (walk.marks, walk.counts);
+    let after = State {
+        values,
+        marks,
+        counts,
+    };
+    Ok((climbs, after))
+}
+
+/// Entry after entry: one that completes is left, and one that waits is marked again.
+fn visit(walk: &mut Walk, marked: &[usize], entries: &[u16]) -> Result<Vec<Climb>, u16> {
     let mut climbs = Vec::new();
     for &entry in entries {
         let i = entry as usize;
-        if completes(program, &marked, i) {
+        if completes(walk.program, marked, i) {
             let turns = walk.leave(i).map_err(|_| 10_u16)?;
             climbs.push(Climb { entry, turns });
         } else {
             walk.marks[i] = 1;
         }
     }
-    let after = State {
-        values,
-        marks: walk.marks,
-        counts: walk.counts,
-    };
-    Ok((climbs, after))
+    Ok(climbs)
 }
 
 fn each_once(marked: &[usize], entries: &[u16]) -> bool {

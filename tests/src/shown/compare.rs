@@ -131,8 +131,8 @@ fn lowered(count: &mut u16) -> u16 {
     *count
 }
 
-/// The leaves that are marked where a turn enters a child that stays. None of them is an entry of the
-/// cycle, so that they are the leaves below it that are marked after the cycle.
+/// The leaves that are marked where a turn enters a child that stays. No entry that is still to come is
+/// below the child, so that they are the leaves below it that are marked after the cycle.
 fn marked(program: &Program, turn: &Turn, after: &State) -> Vec<u16> {
     let Some(Entered { child, stays: true }) = turn.turn.entered else {
         return Vec::new();
