@@ -27,30 +27,32 @@ module _ (holds : ℕ → Bool) (nodes : List ℕ) where
   abbrev pub enter_node : ℕ → Walk → Entered
   enter_node i = enter holds (statement_at nodes i)
 
-  -- Node i, a child of node h of a kind, is left. A SEQ enters its next child, which stands where node i ends and is left
-  -- next if it finishes; with no next child the SEQ is left. An IF is left. A WHL that is true enters its child again,
-  -- which is a zero-time loop if it finishes; one that is false is left. A PAR counts one thread fewer, and is left at
-  -- 0. No other kind is a parent.
+  -- Node i, a child of node h of a kind, is left. No kind but these four is a parent.
   unfoldable pub turn_under : Kind → ℕ → ℕ → Walk → Turn
+  -- a SEQ enters the next child, which stands where node i ends; with no next child the SEQ is left
   turn_under SEQ h i w =
       let next = end_at nodes i in
       let entered = next_if_finished next (enter_node next w) in
       let past = leaves_next h w in
       cond (ltb next (end_at nodes h)) entered past
-  turn_under PAR h i w = next_if_finished h (finished_at_zero h (lower h w))
+  -- an IF is left
   turn_under IF h i w = leaves_next h w
+  -- a WHL that is true enters its child again, which is a zero-time loop if it finishes; one that is false is left
   turn_under WHL h i w =
       let again = next_if_finished h (loop_if_finished (enter_node i w)) in
       let past = leaves_next h w in
       cond (holds (a_at nodes h)) again past
+  -- a PAR counts one thread fewer, and is left at 0
+  turn_under PAR h i w = next_if_finished h (finished_at_zero h (lower h w))
   turn_under (LEAF l) h i w = over w
   turn_under UNKNOWN h i w = over w
 
+  -- Node i is left, whose parent this is. Without a parent, the climb is over.
   unfoldable pub turn_by : Option ℕ → ℕ → Walk → Turn
   turn_by none i w = over w
   turn_by (some h) i w = turn_under (kind_at nodes h) h i w
 
-  -- One turn: node i is left, by a look at its parent. Without a parent, the climb is over.
+  -- One turn: node i is left, by a look at its parent.
   abbrev pub turn : ℕ → Walk → Turn
   turn i w = turn_by (parent nodes i) i w
 

@@ -92,7 +92,9 @@ module _ (holds : ℕ → Bool) (nodes : List ℕ) (t : Turn) where
             subst (λ (k : ℕ). is_over (turns holds nodes k t) ≡ false) q (ap is_over e)
       ]
 
--- ---- places: how many nodes a walk of the whole tree leaves before node i
+-- ---- places
+
+-- how many nodes a walk of the whole tree leaves before node i
 abbrev pub place : List ℕ → ℕ → ℕ
 place nodes i = end_at nodes i - depth nodes i
 
