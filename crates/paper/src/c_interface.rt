@@ -25,7 +25,7 @@ fn word_of_sizes(sizes: FileSizes) -> u64
 pub fn paper_sizes(file: &[u8]) -> u64
     ensures { SizesAnswer file.now (nodes_in result) (exprs_in result) (vars_in result) (chans_in result) }
 {
-    word_of_sizes(super::sizes(file).unwrap_or_default())
+    word_of_sizes(super::sizes(file))
 }
 
 pub fn paper_read(

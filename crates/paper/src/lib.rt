@@ -17,15 +17,22 @@ ghost use Rattle.paper.specs.Write.{WriteAnswer};
 ghost use Rattle.program.specs.Answer.{program_in, number_of, item_of};
 
 pub use lengths::FileSizes;
-use program::{Program, Refusal, check};
+use program::{Program, Refusal, accept};
 use reader::{ask_room, check_in, fill_all};
 use trailer::sizes_of_file;
 use words::put_words;
 use writer::{put_parts, trailer_of};
 
-// The sizes of the paper in a file, for making buffers, if the bytes are a file.
+// The sizes of the paper in a file, for making buffers; 0 for each where the bytes are no file.
+pub fn sizes(file: &[u8]) -> FileSizes
+    ensures { SizesAnswer file.now result.nodes result.exprs result.vars result.chans }
+{
+    file_sizes(file).unwrap_or_default()
+}
+
+// The same, if the bytes are a file.
 #[tactic(auto, using(crate::proofs::ReaderLaws::given_answer))]
-pub fn sizes(file: &[u8]) -> Option<FileSizes>
+pub fn file_sizes(file: &[u8]) -> Option<FileSizes>
     ensures answer { SizesAnswer file.now (given result).nodes (given result).exprs (given result).vars
         (given result).chans }
     ensures is_file { is_given result ≡ file_ok file.now }
@@ -63,7 +70,7 @@ pub fn write(program: Program, values: &[u16], file: &mut [u8]) -> Result<(), Re
     ensures { WriteAnswer (program_in program.entry) values.now file.old
         (number_of result) (item_of result) file.new }
 {
-    let accepted = check(program)?;
+    let accepted = accept(program)?;
     if values.len() != program.vars as usize {
         return Err(Refusal::Lengths);
     }

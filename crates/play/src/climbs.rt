@@ -6,7 +6,7 @@ use super::state::State;
 use super::statement::Statement;
 use super::text::After;
 use super::turn::{END, Turn};
-use program::{Accepted, Program, check};
+use program::{Accepted, Program, accept};
 use std::fmt;
 
 // Where the line of a statement starts.
@@ -37,7 +37,7 @@ pub struct Climbs<'a> {
 impl<'a> Climbs<'a> {
     // There are none of a program that is refused: begin refuses it too.
     pub fn new(out: Output, program: Program<'a>) -> Option<Climbs<'a>> {
-        let program = check(program).ok()?;
+        let program = accept(program).ok()?;
         Some(Climbs { out, program })
     }
 

@@ -22,13 +22,22 @@ fn open<R: Files>(files: &R, name: &[u8]) -> io::Result<R::File> {
     File::open(files, path_of(name)?)
 }
 
-// A file's bytes, as many as are read. What has been read before a read fails is taken for all.
-fn read_all(alloc: Global, file: impl Read + Drop) -> Result<Vec<u8>, Fault> {
-    let mut contents = Vec::with_capacity(alloc, BYTES.most + 1)?;
+// Reads on to the end of a file, or to one byte more than it may have.
+fn read_on(file: &mut impl Read, contents: &mut Vec<u8>) -> io::Result<usize> {
     // No From makes a u64 of a usize.
-    let outcome = file.take(BYTES.most as u64 + 1).read_to_end(&mut contents);
+    file.by_ref()
+        .take(BYTES.most as u64 + 1)
+        .read_to_end(contents)
+}
+
+// A file's bytes, as many as are read. What has been read before a read fails is taken for all. Where no byte was read, it reads
+// once more: a terminal may go on after an end of its input.
+fn read_all(alloc: Global, mut file: impl Read + Drop) -> Result<Vec<u8>, Fault> {
+    let mut contents = Vec::with_capacity(alloc, BYTES.most + 1)?;
+    let outcome = read_on(&mut file, &mut contents);
     if contents.is_empty() {
         outcome?;
+        read_on(&mut file, &mut contents).ok();
     }
     Ok(contents)
 }

@@ -47,7 +47,7 @@ pub fn take_turn(program: &Accepted, walk: &mut State, node: u16) -> Result<Opti
 
 // The paper of a file of words. There is no book.
 pub fn read(alloc: Global, heading: Line, contents: &[u8]) -> Result<Paper, Error> {
-    let sizes = paper::sizes(contents).ok_or(Refusal::File)?;
+    let sizes = paper::file_sizes(contents).ok_or(Refusal::File)?;
     let lengths = sizes.lengths();
     let mut exprs = vec![in alloc; 0u16; lengths.exprs]?;
     let mut nodes = vec![in alloc; 0u16; lengths.nodes]?;

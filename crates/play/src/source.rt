@@ -12,7 +12,7 @@ use std::rt::Files;
 
 // The title of a paper: its first line, if that is a comment.
 fn title_of(text: &[u8]) -> Option<&[u8]> {
-    let comment = until(text, b'\n').strip_prefix(b"#".as_slice())?;
+    let comment = until(text.strip_prefix(b"#".as_slice())?, b'\n');
     Some(comment.get(1..).unwrap_or(&[]))
 }
 

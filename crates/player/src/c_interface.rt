@@ -14,14 +14,13 @@ use program::word::{word_of, word_of_answer};
 pub fn player_check(exprs: &[u16], nodes: &[u16], widths: &[u16], vars: u16, chans: u16) -> u32
     ensures { CheckAnswer (program_of exprs.now nodes.now widths.now vars chans) (number_in result) (item_in result) }
 {
-    let answer = program::check(Program {
+    word_of_answer(program::check(Program {
         exprs,
         nodes,
         widths,
         vars,
         chans,
-    });
-    word_of_answer(answer.map(|_| ()))
+    }))
 }
 
 pub fn player_begin(

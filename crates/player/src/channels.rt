@@ -27,8 +27,8 @@ fn pair_one(program: &Accepted, i: u16, claims: &mut Claims) -> bool
 {
     let channel = channel_of(program, i);
     match records::kind(program, i) {
-        Kind::Leaf(Leaf::In) => claims.inputs.claim(claims.stamp, channel.0, i),
-        Kind::Leaf(Leaf::Out) => claims.outputs.claim(claims.stamp, channel.0, i),
+        Kind::Leaf(Leaf::In) => claims.claim_input(channel, i),
+        Kind::Leaf(Leaf::Out) => claims.claim_output(channel, i),
         _ => true,
     }
 }

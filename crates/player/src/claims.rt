@@ -1,8 +1,8 @@
 // What a cycle claims: channels and variables, each by one node. A slot is claimed in the cycle whose stamp it has; stamps
 // rise from cycle to cycle, so that no slot is ever cleared.
-ghost use Rattle.std.specs.Prelude.{◌<◌};
+ghost use Rattle.std.specs.Prelude.{◌≡◌, ◌<◌};
 
-use program::ChanId;
+use program::{ChanId, VarId};
 
 // How many slots there are: as many as channels, and as many as variables, in arrays, for the player has no heap. Each method
 // asks a slot below: a type of such numbers would be made at each call, by a proof of the same: no plainer.
@@ -34,8 +34,9 @@ impl Slots {
         }
     }
 
-    // Whether the slot was free; then node i claims it. A bool, for there is no more to tell of it.
-    pub fn claim(&mut self, stamp: u16, slot: u16, i: u16) -> bool
+    // Whether the slot was free; then node i claims it. A bool, for there is no more to tell of it. A slot is a plain number,
+    // for channels and variables are claimed alike; only the methods of `Claims` call it, which take a channel or a variable.
+    fn claim(&mut self, stamp: u16, slot: u16, i: u16) -> bool
         requires { slot < 256 }
         ensures { Claim self.old self.new stamp slot i result }
     {
@@ -69,7 +70,7 @@ pub struct Claims {
 }
 
 impl Claims {
-    ghost use Rattle.player.specs.Claims.{Aged, IsClaimant};
+    ghost use Rattle.player.specs.Claims.{Aged, Claim, IsClaimant};
 
     pub fn new() -> Claims
         ensures { Aged result 0 }
@@ -80,6 +81,34 @@ impl Claims {
             outputs: Slots::new(),
             writers: Slots::new(),
         }
+    }
+
+    // Whether the channel was free for input; then node i claims it. With one method for this and the next two a caller would
+    // hand over a plain number.
+    pub fn claim_input(&mut self, channel: ChanId, i: u16) -> bool
+        requires { channel.0 < 256 }
+        ensures claimed { Claim self.old.inputs self.new.inputs self.old.stamp channel.0 i result }
+        ensures kept { self.new ≡ record self.old { inputs = self.new.inputs } }
+    {
+        self.inputs.claim(self.stamp, channel.0, i)
+    }
+
+    // The same for output.
+    pub fn claim_output(&mut self, channel: ChanId, i: u16) -> bool
+        requires { channel.0 < 256 }
+        ensures claimed { Claim self.old.outputs self.new.outputs self.old.stamp channel.0 i result }
+        ensures kept { self.new ≡ record self.old { outputs = self.new.outputs } }
+    {
+        self.outputs.claim(self.stamp, channel.0, i)
+    }
+
+    // Whether no node before it stores to the variable; then node i claims it.
+    pub fn claim_variable(&mut self, variable: VarId, i: u16) -> bool
+        requires { variable.0 < 256 }
+        ensures claimed { Claim self.old.writers self.new.writers self.old.stamp variable.0 i result }
+        ensures kept { self.new ≡ record self.old { writers = self.new.writers } }
+    {
+        self.writers.claim(self.stamp, variable.0, i)
     }
 
     // The IN that claimed the channel. With one method for this and the next a caller would name the slots: no plainer.

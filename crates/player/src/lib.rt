@@ -36,7 +36,7 @@ ghost use Rattle.player.specs.Turn.{TurnAnswer};
 
 use cycles::work_cycles;
 use lengths::ask_lengths;
-pub use program::{Accepted, Program, Refusal, check};
+pub use program::{Accepted, Program, Refusal, accept, check};
 use root::enter_root;
 use well_formed::{ask_state, ask_values};
 use work::Work;
@@ -54,7 +54,7 @@ pub fn begin(
     ensures { BeginAnswer (program_in program.entry) (state_of values.now marks.old counts.old)
         (number_of result) (item_of result) marks.new counts.new }
 {
-    let accepted = check(program)?;
+    let accepted = accept(program)?;
     ask_lengths(&accepted, values, marks, counts)?;
     ask_values(&accepted, values)?;
     enter_root(&accepted, values, marks, counts)
@@ -88,7 +88,7 @@ pub fn run(
     ensures { RunAnswer (program_in program.entry) cycles (state_of values.old marks.old counts.old) book.now
         (number_of_run result) (item_of_run result) (worked_by result) (state_of values.new marks.new counts.new) }
 {
-    let accepted = check(program)?;
+    let accepted = accept(program)?;
     ask_lengths(&accepted, values, marks, counts)?;
     ask_state(&accepted, values, marks, counts)?;
     work_cycles(&accepted, values, marks, counts, book, cycles)

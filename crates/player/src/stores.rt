@@ -62,8 +62,7 @@ pub fn work_right_sides(
     scratch.stores.clear();
     for &i in entries {
         if let Some((variable, source)) = target_and_source(program, &scratch.claims, i) {
-            let claims = &mut scratch.claims;
-            if !claims.writers.claim(claims.stamp, variable.0, i) {
+            if !scratch.claims.claim_variable(variable, i) {
                 return Err(Refusal::Stores);
             }
             let value = expressions::right_side(program, &mut scratch.work.memo, source);

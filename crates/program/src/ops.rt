@@ -1,6 +1,26 @@
 // The ops of expressions. An expression's first word is the number of its op.
 ghost use Rattle.program.specs.Ops.{OpOfWord};
 
+// ---- the numbers
+
+pub const NUMBER: u16 = 0;
+
+pub const VARIABLE: u16 = 1;
+
+pub const ADD: u16 = 2;
+
+pub const SUB: u16 = 3;
+
+pub const MUL: u16 = 4;
+
+pub const AND: u16 = 5;
+
+pub const EQUAL: u16 = 6;
+
+pub const BELOW: u16 = 7;
+
+// ---- the ops
+
 // The ops on two operand expressions.
 #[derive(Clone, Copy, Debug, PartialEq, Eq)]
 pub enum Binary {
@@ -31,14 +51,14 @@ impl TryFrom<u16> for Op {
     #[tactic(auto, unfolding(semantics::specs::Program::op_of))]
     fn try_from(word: u16) -> Result<Op, UnknownOp> {
         match word {
-            0 => Ok(Op::Number),
-            1 => Ok(Op::Variable),
-            2 => Ok(Op::Binary(Binary::Add)),
-            3 => Ok(Op::Binary(Binary::Sub)),
-            4 => Ok(Op::Binary(Binary::Mul)),
-            5 => Ok(Op::Binary(Binary::And)),
-            6 => Ok(Op::Binary(Binary::Equal)),
-            7 => Ok(Op::Binary(Binary::Below)),
+            NUMBER => Ok(Op::Number),
+            VARIABLE => Ok(Op::Variable),
+            ADD => Ok(Op::Binary(Binary::Add)),
+            SUB => Ok(Op::Binary(Binary::Sub)),
+            MUL => Ok(Op::Binary(Binary::Mul)),
+            AND => Ok(Op::Binary(Binary::And)),
+            EQUAL => Ok(Op::Binary(Binary::Equal)),
+            BELOW => Ok(Op::Binary(Binary::Below)),
             _ => Err(UnknownOp),
         }
     }

@@ -25,6 +25,7 @@ pub struct Node {
     pub b: u16,
 }
 
+// Word `at` of any list.
 pub fn word_at(list: &[u16], at: usize) -> u16
     ensures { result ≡ slice_index list.now at }
 {

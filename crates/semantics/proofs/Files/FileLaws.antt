@@ -1,15 +1,15 @@
 -- Laws of a file: what question 12 says where it is answered yes, what parts of the right lengths give as a file, and
 -- that a file is made of its parts.
 use mathlib.Core.Path.{◌≡◌, refl, sym, ap, ◌∙◌}
-use mathlib.Core.Bool.{true, ◌&&◌}
+use mathlib.Core.Bool.{Bool, true, false, ◌&&◌, and-false}
 use mathlib.Core.List.{List, [], ◌∷◌, ◌++◌, append_assoc}
-use Prim.Native.Nat.{ℕ, zero, suc, ◌+◌, ◌-◌, ◌*◌, ◌/◌, ◌%◌, ◌≤◌}
+use Prim.Native.Nat.{ℕ, zero, suc, ◌+◌, ◌-◌, ◌*◌, ◌/◌, ◌%◌, ◌≤◌, ◌<◌}
 use native.Mathlib.Omega.{arith}
 use lib.Dec.{eqb, leb}
 use lib.Pow.{are_bytes}
 use lib.ListN.{length, get_or, take, drop, length-append, length-drop, take-append-drop, drop_of_length-le}
 use lib.Seq.{take_at, drop_at, drop-cons, drop-drop, length-take-le}
-use borrow.Author.Tests.{eqb-true, eq-eqb, le-leb}
+use borrow.Author.Tests.{eqb-true, eq-eqb, le-leb, lt-leb}
 use Rattle.semantics.specs.Program.{Program}
 use Rattle.semantics.specs.Bytes.{bytes_of, words_of}
 use Rattle.semantics.specs.File.{Sizes, Parts, exprs_back, nodes_back, values_back, widths_back, trailer}
@@ -145,6 +145,29 @@ file_fits file h =
       widths = eqb-true _ _ w;
       size = eqb-true _ _ size;
     }
+
+pub file_least : (file : List ℕ) → file_ok file ≡ true → 16 ≤ length file
+file_least file h = let s = (file_fits file h).size in omega arith
+
+-- bytes without a trailer are no file
+pub no_trailer : (file : List ℕ) → length file < 16 → file_ok file ≡ false
+unfolding file_ok
+no_trailer file l = rw (lt-leb 16 (length file) l, and-false (eqb (length file % 2) 0)) refl
+
+-- where there is one, the tests of question 12 one after the other
+pub asked_in_turn : (file : List ℕ) (c : Sizes) → 16 ≤ length file → c ≡ sizes_in file
+    → (let words = trailer_in file in
+    eqb (length file % 2) 0 && eqb (get_or words 4 0) (exprs_back c) && eqb (get_or words 5 0) (nodes_back c)
+    && eqb (get_or words 6 0) (values_back c) && eqb (get_or words 7 0) (widths_back c)
+    && eqb (length file) (2 * exprs_back c + 16))
+    ≡ file_ok file
+unfolding file_ok
+asked_in_turn file c l e =
+    rw (le-leb 16 (length file) l, e) (pick (eqb (length file % 2) 0) _ _ _ _ _)
+  where
+    pick : (a b c d e f : Bool) → a && b && c && d && e && f ≡ a && true && (b && c && d && e) && f
+    pick true b c d e f = refl
+    pick false b c d e f = refl
 
 -- the parts of enough words have the lengths that the sizes require
 pub parts_fit : (c : Sizes) (words : List ℕ) → exprs_back c ≤ length words → PartsFit c (parts_at c words)

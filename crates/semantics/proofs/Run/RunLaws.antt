@@ -6,7 +6,7 @@ use mathlib.Core.Bool.{Bool, true, false, cond, not}
 use mathlib.Core.List.{List, [], ◌∷◌}
 use mathlib.Core.Logic.{◌≢◌}
 use Prim.Native.Nat.{ℕ, zero, suc, ◌+◌, ◌-◌, ◌≤◌, ◌<◌, zero-le, suc-le-suc}
-use native.Mathlib.Nat.{le_trans, zero-lt-suc, zero-add, suc-add, le_of_suc-le-suc}
+use native.Mathlib.Nat.{le_trans, zero-lt-suc, zero-add, suc-add, suc_inj, suc-ne-zero, le_of_suc-le-suc}
 use native.Mathlib.Omega.{arith}
 use lib.Dec.{eqb, leb-suc-suc, eqb-zero-suc, eqb-suc-suc}
 use lib.ListN.{take, drop}
@@ -179,6 +179,13 @@ module _ (P : Program) where
       (λ n s book e. rw (run_ended (suc n) s book e) zero-le)
       (λ n q s book c. rw (run_refused n q s book c) zero-le)
       (λ n s s' book c h. rw (run_worked n s s' book c) (suc-le-suc h))
+
+  pub all-worked : (n : ℕ) (s : State) (book : List ℕ) → (run P n s book).worked ≡ n → (run P n s book).number ≡ 0
+  all-worked = run_induction (λ n s book. (run P n s book).worked ≡ n → (run P n s book).number ≡ 0)
+      (λ s book. rw (run_no_cycle s book) (λ w. refl))
+      (λ n s book e. rw (run_ended (suc n) s book e) (λ w. refl))
+      (λ n q s book c. rw (run_refused n q s book c) (λ w. absurd (suc-ne-zero n (sym w))))
+      (λ n s s' book c h. rw (run_worked n s s' book c) (λ w. h (suc_inj w)))
 
   -- For the reader: a run that is not refused and works fewer cycles than asked leaves an ended state.
   pub fewer_worked : (n : ℕ) (s : State) (book : List ℕ) → (run P n s book).number ≡ 0 → (run P n s book).worked < n

@@ -7,5 +7,4 @@ use Rattle.play.proofs.decimal.word_of.Goals as goal
 pub loop-digit-preserved : goal.loop-digit-preserved
 loop-digit-preserved c =
     further _ _ _ c.loop-digit.invariant c.loop-digit-test.true _ (sym c.if-not-is_ascii_digit.ensures.value)
-    (omega (arith, c.in_ok-value.ensures.1, c.in_ok-checked_mul.ensures.1, c.from.ensures))
-    (omega (arith, c.in_ok-value.ensures.0, c.in_ok-value.ensures.1))
+    (omega (arith, c.from.ensures)) (omega (arith, c.if-value-gt-WORD_MAX.false))

@@ -3,7 +3,7 @@ use Rattle.std.proofs.Common.{arith}
 use Rattle.player.proofs.RightSideLaws.{right_none, right-all, right_entry, right_room, right_skip}
 use Rattle.player.proofs.RightSideLaws.{right_target, right_refused, right_expression, right_more}
 use Rattle.player.proofs.stores.work_right_sides.Goals as goal
-use Rattle.player.proofs.stores.work_right_sides.Goals.{in-Some+else-not-claim, in_default}
+use Rattle.player.proofs.stores.work_right_sides.Goals.{in-Some+else-not-claim_variable, in_default}
 
 pub loop-i-init : goal.loop-i-init
 loop-i-init c = right_none c.requires c.clear.ensures
@@ -13,12 +13,14 @@ target_and_source-requires c = right_entry c.requires c.loop-i.invariant c.loop-
 
 -- ---- an entry that stores
 
-pub claim-requires : goal.claim-requires
-claim-requires c = right_target c.requires c.loop-i.invariant c.loop-i-test.true c.in-Some.ensures
+pub claim_variable-requires : goal.claim_variable-requires
+claim_variable-requires c = right_target c.requires c.loop-i.invariant c.loop-i-test.true c.in-Some.ensures
 
-pub returns-then-not-claim : goal.returns-then-not-claim
-returns-then-not-claim c =
-    right_refused c.requires c.loop-i.invariant c.loop-i-test.true c.in-Some.ensures c.claim.ensures c.if-not-claim.true
+pub returns-then-not-claim_variable : goal.returns-then-not-claim_variable
+returns-then-not-claim_variable c =
+    rw c.claim_variable.ensures.kept
+    (right_refused c.requires c.loop-i.invariant c.loop-i-test.true c.in-Some.ensures c.claim_variable.ensures.claimed
+    c.if-not-claim_variable.true)
 
 pub right_side-value-requires : goal.right_side-value-requires
 right_side-value-requires c =
@@ -37,9 +39,9 @@ loop-i-preserved c =
     let l = c.loop-i in
     let more = c.loop-i-test.true in
     elim c.match-target_and_source.branch [
-      | in-Some+else-not-claim w ↦ rw w.scratch-is
-          (right_more c.requires l.invariant more w.in-Some.ensures w.claim.ensures w.if-not-claim.false
-          w.right_side-value.ensures w.push.ensures.items)
+      | in-Some+else-not-claim_variable w ↦ rw (w.scratch-is, w.claim_variable.ensures.kept)
+          (right_more c.requires l.invariant more w.in-Some.ensures w.claim_variable.ensures.claimed
+          w.if-not-claim_variable.false w.right_side-value.ensures w.push.ensures.items)
       | in_default w ↦ rw w.scratch-is (right_skip c.requires l.invariant more w.in_default.ensures)
     ]
 

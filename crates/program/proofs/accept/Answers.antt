@@ -1,7 +1,7 @@
--- `check` asks one question after the other, and `?` passes on the first refusal.
+-- `accept` asks one question after the other, and `?` passes on the first refusal.
 use Rattle.program.specs.Answer.{program_in}
 use Rattle.program.proofs.CheckLaws.{refused, first_1, first_2, first_3, first_4, first_11}
-use Rattle.program.proofs.check.Goals as goal
+use Rattle.program.proofs.accept.Goals as goal
 
 pub returns-in_err-ask_sizes-clause-answer : goal.returns-in_err-ask_sizes-clause-answer
 returns-in_err-ask_sizes-clause-answer c =
