@@ -63,8 +63,8 @@ fn add_word(
     Ok(())
 }
 
-// The words of a text, if there are no more of them than there may be. It goes over the bytes once: a split at the lines, at
-// the comments and at the blanks makes two to four times the instructions where blanks or empty lines stand in a row.
+// The words of a text, if there are no more of them than there may be. It goes over the bytes once: with splits at the lines,
+// at the comments and at the blanks play makes up to 2.3 times the instructions where empty lines or blanks stand in a row.
 pub fn words_in(alloc: Global, text: &[u8], limit: Limit) -> Result<Vec<u16>, Fault> {
     let mut words = Vec::new(alloc);
     let mut in_comment = false;
