@@ -1,18 +1,19 @@
 -- Laws of the words that are taken out of a file and put into one: the crate byteorder's words are those of the rules.
-use mathlib.Core.Path.{◌≡◌, refl, sym, ap, ◌∙◌}
+use mathlib.Core.Path.{◌≡◌, refl, sym, ap, ◌∙◌, subst}
 use mathlib.Core.List.{List, [], ◌∷◌, ◌++◌}
 use Prim.Native.Nat.{ℕ, suc, ◌+◌, ◌*◌, ◌-◌, ◌/◌, ◌%◌, ◌≤◌, ◌<◌}
 use native.Mathlib.Nat.{zero-add}
+use native.Mathlib.Numerals.{add-one}
 use native.Mathlib.Omega.{arith}
-use lib.ListN.{length, get_or, take, drop, length-drop, length-append}
-use lib.Seq.{paste, get_or-drop, drop-drop, drop-append-add, take_at, take_all}
+use lib.ListN.{length, get_or, take, drop, set, length-drop, length-append}
+use lib.Seq.{paste, paste-suc, sets, get_or-drop, drop-drop, drop-append-add, take_at, take_all}
 use Rattle.std.specs.List.{flat_map}
 use Rattle.std.proofs.lemmas.List.{ext_get_or, get_or-take, length-take-le}
 use Rattle.byteorder.specs.Endian.{IsRead, little_bytes, little_number}
 use Rattle.semantics.specs.Bytes.{bytes_of, words_of}
 use Rattle.semantics.specs.FileCalls.{filled}
 use Rattle.semantics.proofs.Lists.WordLaws.{Words}
-use Rattle.semantics.proofs.Files.BytesLaws.{length-bytes, bytes-append, length-words, word_at}
+use Rattle.semantics.proofs.Files.BytesLaws.{length-bytes, bytes-append, length-words, low_byte, high_byte, word_at}
 
 -- ---- taking
 
@@ -58,6 +59,24 @@ read_at file k within =
     let word = word_at file k within in
     omega (arith, low, high, word)
 
+-- one word more of those from `from` on
+pub take-one : (file : List ℕ) (from i : ℕ) (list list₀ : List ℕ) (word : ℕ)
+    → from + i < length file / 2 → i < length list₀ → list ≡ paste list₀ 0 (drop from (words_of file)) i
+    → word ≡ get_or (words_of file) (from + i) 0
+    → set list i word ≡ paste list₀ 0 (drop from (words_of file)) (i + 1)
+take-one file from i list list₀ word within room copied right =
+    let words = drop from (words_of file) in
+    let l = length-drop from (words_of file) in
+    let n = length-words file in
+    let turn = paste-suc list₀ 0 words i 0 (omega arith) (omega arith) in
+    rw (add-one i, copied, right, ← get_or-drop from (words_of file) i 0)
+    (subst (λ (k : ℕ). set (paste list₀ 0 words i) k (get_or words i 0) ≡ paste list₀ 0 words (suc i))
+    (zero-add i) turn)
+
+-- words at the start of a buffer
+pub pasted : (words list : List ℕ) (n : ℕ) → n ≤ length words → paste list 0 words n ≡ filled (take n words) list
+pasted words list n l = ap (λ (k : ℕ). take n words ++ drop k list) (zero-add n ∙ sym (length-take-le n words l))
+
 -- ---- putting
 
 -- the bytes that are written of words
@@ -68,6 +87,20 @@ put (word ∷ words) small =
     let fits = small 0 in
     let high : word / 256 % 256 ≡ word / 256 = omega arith in
     λ i. word % 256 ∷ high i ∷ put words (λ k. small (suc k)) i
+
+-- one word more of those that are put from byte `at` on
+pub put_one : (words : List ℕ) (at i : ℕ) (file file₀ : List ℕ) (word : ℕ)
+    → i < length words → at + 2 * length words ≤ length file₀ → file ≡ paste file₀ at (bytes_of words) (2 * i)
+    → word ≡ get_or words i 0
+    → sets file (at + 2 * i) (bytes_of (word ∷ [])) ≡ paste file₀ at (bytes_of words) (2 * (i + 1))
+unfolding bytes_of
+put_one words at i file file₀ word within room copied right =
+    let n = length-bytes words in
+    let low = paste-suc file₀ at (bytes_of words) (2 * i) 0 (omega arith) (omega arith) in
+    let high = paste-suc file₀ at (bytes_of words) (suc (2 * i)) 0 (omega arith) (omega arith) in
+    let e : at + suc (2 * i) ≡ suc (at + 2 * i) = omega arith in
+    let f : suc (suc (2 * i)) ≡ 2 * (i + 1) = omega arith in
+    rw (copied, right, ← low_byte words i within, ← high_byte words i within, low, ← f, ← e) high
 
 -- words behind those that are put already
 pub put_next : (done words : List ℕ) (at : ℕ) (file file₀ : List ℕ) → at ≡ 2 * length done

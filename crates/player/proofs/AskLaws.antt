@@ -41,7 +41,7 @@ module _ {P : Program} {marks entries : List ℕ} (x : CycleFrom P marks entries
       ∙ eq-eqb (crossable marks entries) (length entries) (omega arith)
 
   -- where one of the questions refuses, the marks are as they were
-  refused : (refusal : Refusal) {marks' : List ℕ} {before scratch : Scratch}
+  pub refused : (refusal : Refusal) {marks' : List ℕ} {before scratch : Scratch}
       → question_number refusal ≡ first_no (first_questions P marks entries) → fault_in refusal ≡ 0
       → marks' ≡ marks → AskAnswer P marks entries before (Err refusal) marks' scratch
   refused refusal asked no_item same =
@@ -88,23 +88,23 @@ module _ {P : Program} {marks entries : List ℕ} (x : CycleFrom P marks entries
         known = known;
       }
 
+    module _ (all_free : channels_free P (marks_of P entries) ≡ true) where
       free : channels_free P marks ≡ true
-      free = ap (channels_free P) are_marked ∙ p.free
+      free = ap (channels_free P) are_marked ∙ all_free
 
-      abbrev pairing_made : Scratch
-      pairing_made = record before { claims = claims }
-
-      pub answer_nine : (refusal : Refusal) {scratch : Scratch} → RightSides P entries pairing_made (Err refusal) scratch
+      pub answer_nine : (before : Scratch) {claims : Claims} (refusal : Refusal) {scratch : Scratch}
+          → RightSides P entries (record before { claims = claims }) (Err refusal) scratch
           → {marks' : List ℕ} → marks' ≡ marks → AskAnswer P marks entries before (Err refusal) marks' scratch
-      answer_nine refusal sides same =
+      answer_nine before refusal sides same =
           let (failed, which) = answer_to-err (targets_apart P (marks_of P entries)) StoresClash sides.answered in
           let clash = ap (targets_apart P) are_marked ∙ failed in
           rw which (refused StoresClash (sym (rw (active, free, clash))) refl same)
 
-      pub answer_none : {scratch : Scratch} → RightSides P entries pairing_made (Ok tt) scratch
+      pub answer_none : (before : Scratch) {claims : Claims} → claims.stamp ≡ before.claims.stamp → {scratch : Scratch}
+          → RightSides P entries (record before { claims = claims }) (Ok tt) scratch
           → {marks' : List ℕ} → marks' ≡ replicate (length marks) 0
           → AskAnswer P marks entries before (Ok tt) marks' scratch
-      answer_none {scratch} sides clear =
+      answer_none before stamp {scratch} sides clear =
           let yes = answer_to-ok (targets_apart P (marks_of P entries)) StoresClash sides.answered in
           let apart = ap (targets_apart P) are_marked ∙ yes in
           record {
@@ -116,6 +116,6 @@ module _ {P : Program} {marks entries : List ℕ} (x : CycleFrom P marks entries
               cleared = clear;
               started = sides.started yes;
               more = sides.more;
-              aged = subst (Aged scratch.claims) p.stamp sides.aged;
+              aged = subst (Aged scratch.claims) stamp sides.aged;
             };
           }

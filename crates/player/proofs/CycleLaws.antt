@@ -1,7 +1,7 @@
 -- What the code of a cycle may rely on: its entries are marked nodes, their names are in range, and its expressions can
 -- be worked.
 use mathlib.Core.Path.{◌≡◌, refl, sym, ap, ◌∙◌, subst}
-use mathlib.Core.Bool.{Bool, true, false, cond, ◌&&◌}
+use mathlib.Core.Bool.{Bool, true, false, true≢false, cond, ◌&&◌}
 use mathlib.Core.List.{List, [], ◌∷◌, foldl}
 use Prim.Native.Nat.{ℕ, ◌+◌, ◌*◌, ◌≤◌, ◌<◌}
 use native.Mathlib.Nat.{lt_of_lt_of_le}
@@ -76,6 +76,21 @@ test_fails f PAR h = refl
 test_fails f IF h = refl
 test_fails f WHL h = refl
 test_fails f UNKNOWN h = refl
+
+-- a kind that passes the test of IN is that of an IN
+pub leaf_in : (k : Kind) → leaf_test is_in k ≡ true → k ≡ LEAF IN
+leaf_in (LEAF l) passed =
+    elim l as (λ (l : Leaf). is_in l ≡ true → LEAF l ≡ LEAF IN) [
+      | ASG ↦ λ e. absurd (true≢false (sym e))
+      | IN ↦ λ e. refl
+      | OUT ↦ λ e. absurd (true≢false (sym e))
+      | DLY ↦ λ e. absurd (true≢false (sym e))
+    ] passed
+leaf_in SEQ passed = absurd (true≢false (sym passed))
+leaf_in PAR passed = absurd (true≢false (sym passed))
+leaf_in IF passed = absurd (true≢false (sym passed))
+leaf_in WHL passed = absurd (true≢false (sym passed))
+leaf_in UNKNOWN passed = absurd (true≢false (sym passed))
 
 -- a kind that is not that of a leaf fails its test
 module _ (k : Kind) where

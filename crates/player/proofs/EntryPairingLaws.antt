@@ -38,7 +38,7 @@ module _ (it : Accepted) (i : ℕ) (l : i < node_count (accepted_in it).nodes) w
       inputs = λ r. claimed_key (has_kind nodes is_in) (a_at nodes) claims.inputs after claims.stamp i size c r
           (in_slot k) (ap (leaf_test is_in) k);
       outputs = λ r. claimed_nothing (has_kind nodes is_out) (a_at nodes) claims.outputs claims.outputs claims.stamp i
-          refl (ap (leaf_test is_out) k);
+          (λ s u. refl) (ap (leaf_test is_out) k);
       aged = λ a. record { inputs = claim_old size (in_slot k) c a.inputs; outputs = a.outputs; writers = a.writers };
       writers = refl;
       stamp = refl;
@@ -49,8 +49,8 @@ module _ (it : Accepted) (i : ℕ) (l : i < node_count (accepted_in it).nodes) w
         → EntryPairing nodes i free claims (record claims { outputs = after })
     out_paired k size c = record {
       was_free = rw k c.was_free;
-      inputs = λ r. claimed_nothing (has_kind nodes is_in) (a_at nodes) claims.inputs claims.inputs claims.stamp i refl
-          (ap (leaf_test is_in) k);
+      inputs = λ r. claimed_nothing (has_kind nodes is_in) (a_at nodes) claims.inputs claims.inputs claims.stamp i
+          (λ s u. refl) (ap (leaf_test is_in) k);
       outputs = λ r. claimed_key (has_kind nodes is_out) (a_at nodes) claims.outputs after claims.stamp i size c r
           (out_slot k) (ap (leaf_test is_out) k);
       aged = λ a. record { inputs = a.inputs; outputs = claim_old size (out_slot k) c a.outputs; writers = a.writers };
@@ -65,8 +65,10 @@ nothing_paired nodes i claims a b =
     let o-no = no_out (kind_at nodes i) b in
     record {
       was_free = rw (i-no, o-no);
-      inputs = λ r. claimed_nothing (has_kind nodes is_in) (a_at nodes) claims.inputs claims.inputs claims.stamp i refl i-no;
-      outputs = λ r. claimed_nothing (has_kind nodes is_out) (a_at nodes) claims.outputs claims.outputs claims.stamp i refl o-no;
+      inputs = λ r. claimed_nothing (has_kind nodes is_in) (a_at nodes) claims.inputs claims.inputs claims.stamp i
+          (λ s u. refl) i-no;
+      outputs = λ r. claimed_nothing (has_kind nodes is_out) (a_at nodes) claims.outputs claims.outputs claims.stamp i
+          (λ s u. refl) o-no;
       aged = λ h. h;
       writers = refl;
       stamp = refl;

@@ -6,7 +6,7 @@ use Rattle.semantics.specs.Program.{Program, Op, expr_count}
 use Rattle.semantics.specs.Program.Op.{NUMBER, VARIABLE, BINARY, UNKNOWN}
 use Rattle.semantics.specs.Expressions.{value_of as rule_value, first_values, expr_values, is_true}
 use Rattle.player.specs.declared.memo.Memo.{Memo}
-use Rattle.player.specs.Memo.{Known, Unworked, Holds, Worked, WorkedNow, WorkedTo, noted, value_of}
+use Rattle.player.specs.Memo.{Known, SameMoment, Unworked, Holds, Worked, WorkedNow, WorkedTo, noted, value_of}
 use Rattle.player.specs.Walks.{holds_now}
 
 -- ---- values of the variables that are read alike
@@ -40,6 +40,10 @@ same_conditions P values memo holds =
 
 -- ---- an expression worked
 
+pub same_trans : {first second third : Memo} → SameMoment first second → SameMoment second third
+    → SameMoment first third
+same_trans f g = record { variables = g.variables ∙ f.variables; present = g.present ∙ f.present }
+
 module _ (exprs : List ℕ) (memo : Memo) (e value : ℕ) (l : e < 1024) (k : Known exprs memo)
     (right : value ≡ value_of exprs memo.variables e) where
   pub known_noted : Known exprs (noted memo e value)
@@ -58,12 +62,12 @@ pub worked_after : (exprs : List ℕ) (before memo₁ memo₂ : Memo) (e value p
     → Worked exprs before memo₁ p x → Worked exprs memo₁ memo₂ q y → value ≡ value_of exprs before.variables e
     → Worked exprs before (noted memo₂ e value) e value
 worked_after exprs before memo₁ memo₂ e value p q x y l f g right =
-    let variables = g.same.variables ∙ f.same.variables in
+    let same = same_trans f.same g.same in
     record {
       right = right;
       known = known_noted exprs memo₂ e value l g.known
-          (right ∙ ap (λ (v : List ℕ). value_of exprs v e) (sym variables));
-      same = record { variables = variables; present = g.same.present ∙ f.same.present };
+          (right ∙ ap (λ (v : List ℕ). value_of exprs v e) (sym same.variables));
+      same = record { variables = same.variables; present = same.present };
     }
 
 -- ---- the expressions from left to right

@@ -1,7 +1,8 @@
 -- An end theorem of this crate: a call is a function of what it is lent. Take any two results that keep a call's
 -- promise for the same program, state, number of cycles and book: they are equal. It is said once of the number, item
--- and lists of check, begin and run, once of the Result that each of them and accept hands back in Rattle, once of what
--- they hand to C, where number, item and cycles worked are in one word, and once of take_turn, which is lent a node.
+-- and lists of check, begin and run, once of the Result that each of them hands back in Rattle, and of that of accept
+-- with the lists in place of the accepted program, once of what they hand to C, where number, item and cycles worked
+-- are in one word, and once of take_turn, which is lent a node.
 use mathlib.Core.Path.{◌≡◌, refl, sym, ap, ◌∙◌}
 use mathlib.Core.Bool.{Bool, true, false}
 use mathlib.Core.List.{List}

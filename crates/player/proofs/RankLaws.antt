@@ -58,5 +58,6 @@ module _ (uses : ℕ → Bool) (key : ℕ → ℕ) (before after : Slots) (stamp
   claimed_key {free} size c f s u slot l = grind (arith, elements, c.written)
 
   -- a node that wants none
-  pub claimed_nothing : before ≡ after → uses i ≡ false → Claimed uses key before after stamp i
-  claimed_nothing e u slot l = rw (u, e)
+  pub claimed_nothing : ((slot : ℕ) → slot < 256 → rank_in after stamp slot ≡ rank_in before stamp slot)
+      → uses i ≡ false → Claimed uses key before after stamp i
+  claimed_nothing same u slot l = rw u (same slot l)

@@ -37,11 +37,11 @@ walk_of-entered Finished w = refl
 walk_of-entered Stays w = refl
 
 -- `before` is what a run starts from, with values of the variables
-module _ {P : Program} (a : Accepted P) (before : Work) (known : Known P.exprs before.memo)
-    (fresh : before ≡ record new_work { memo = before.memo }) where
+module _ {P : Program} (a : Accepted P) (before : Work) (fresh : before ≡ record new_work { memo = before.memo }) where
   -- no mark stands yet, and no loop was met
-  pub root_walking : let blank : List ℕ = replicate (node_count P.nodes) 0 in Walking P blank blank before
-  root_walking =
+  pub root_walking : Known P.exprs before.memo
+      → let blank : List ℕ = replicate (node_count P.nodes) 0 in Walking P blank blank before
+  root_walking known =
       record {
         accepted = a;
         marks_fit = length-replicate {A = ℕ} (node_count P.nodes) 0;

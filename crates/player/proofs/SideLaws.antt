@@ -120,31 +120,32 @@ module _ {P : Program} {entries : List ℕ} (x : CycleOf P entries) where
             record {
               paired = h.paired;
               claimed = claims_more storing place claims.stamp entries k l claims.writers claims.writers h.claimed inside
-                  (rw s) (claimed_nothing storing place claims.writers claims.writers claims.stamp entry refl s);
+                  (rw s) (claimed_nothing storing place claims.writers claims.writers claims.stamp entry
+                  (λ v u. refl) s);
               few = omega arith;
               targets = h.targets;
               rest = λ values.
                   next values (not_stored side_entry (expr_values P.exprs variables) (put_all keep list values) s);
             }
 
+        -- an entry that stores to a variable that was claimed already
+        pub not_apart : storing entry ≡ true → rank_in claims.writers claims.stamp (place entry) ≢ 0
+            → targets_apart P (marks_of P entries) ≡ false
+        unfolding targets_apart
+        not_apart s taken =
+            let busy : is_free storing place claims.writers claims.stamp entry ≡ false =
+            rw s (refuted _ (λ z. taken (eqb-true (rank_in claims.writers claims.stamp (place entry)) 0 z))) in
+            let two = (claims_refused storing place claims.stamp entries k l claims.writers h.claimed inside busy).1 in
+            refuted _ (λ a.
+            let most = sym (single_storing (place entry))
+            ∙ every_below single P.variables a (place entry) (target_inside side_entry s) in
+            let least = leb-true (length (filter (stores_to (place entry)) entries)) 1 most in
+            omega arith)
+
         -- an entry that stores to variable v the value of expression e
         module _ {v e : ℕ} (s : StoresAt P (marks_of P entries) entry v e) where
           store_inside : v < P.variables
           store_inside = rw s.place (target_inside side_entry s.storing)
-
-          -- the variable was claimed already
-          pub not_apart : rank_in claims.writers claims.stamp v ≢ 0 → targets_apart P (marks_of P entries) ≡ false
-          unfolding targets_apart
-          not_apart taken =
-              let busy : is_free storing place claims.writers claims.stamp entry ≡ false =
-              rw (s.storing, ← s.place)
-              (refuted _ (λ z. taken (eqb-true (rank_in claims.writers claims.stamp v) 0 z))) in
-              let two = (claims_refused storing place claims.stamp entries k l claims.writers h.claimed inside busy).1 in
-              refuted _ (λ a.
-              let most = sym (single_storing (place entry))
-              ∙ every_below single P.variables a (place entry) (target_inside side_entry s.storing) in
-              let least = leb-true (length (filter (stores_to (place entry)) entries)) 1 most in
-              omega arith)
 
           -- it claims the variable, and its right side is listed
           module _ {writers : Slots} (c : Claim claims.writers writers claims.stamp v entry true) (value : ℕ) where

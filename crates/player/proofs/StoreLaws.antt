@@ -1,10 +1,10 @@
 -- Whether a marked node stores, to which variable and what, told by its kind and the ranks of the marked OUT.
-use mathlib.Core.Path.{◌≡◌, refl, sym, ap, ◌∙◌}
+use mathlib.Core.Path.{◌≡◌, refl, sym, ap, ◌∙◌, subst}
 use mathlib.Core.Bool.{Bool, true, false, cond, not, ◌&&◌, true≢false, and-true}
 use mathlib.Core.List.{List, [], ◌∷◌}
 use mathlib.Core.Option.{Option, some}
 use mathlib.Core.Logic.{inl, inr}
-use Prim.Native.Nat.{ℕ, suc, ◌<◌}
+use Prim.Native.Nat.{ℕ, zero, suc, ◌<◌}
 use native.Mathlib.Nat.{lt_of_lt_of_le}
 use native.Mathlib.Omega.{arith}
 use lib.Dec.{eqb, eqb-suc-zero}
@@ -21,7 +21,7 @@ use Rattle.player.specs.declared.claims.Claims.{Claims}
 use Rattle.player.specs.Claims.{rank_of, rank_in}
 use Rattle.player.specs.Channels.{marks_of, PairedEntry, has_kind}
 use Rattle.player.specs.Stores.{StoresAt}
-use Rattle.player.proofs.CycleLaws.{first_active, marked_node, node_in_fits, node_asg_variable, node_in_variable}
+use Rattle.player.proofs.CycleLaws.{first_active, leaf_in, marked_node, node_in_fits, node_asg_variable, node_in_variable}
 use Rattle.player.proofs.CycleLaws.{node_asg_expression, node_out_expression}
 use Rattle.player.proofs.PairingLaws.{in_waits, never_waits}
 
@@ -110,6 +110,21 @@ module _ {P : Program} {claims : Claims} {i : ℕ} (x : PairedEntry P claims i) 
         place = rw k;
         right_side = rw k (ap (sent_by P.nodes) sent_first.1);
       }
+
+  -- it stores the value of an expression
+  pub some_source : entry_stores ≡ true → (e : ℕ) × StoresAt P marks i (target P marks i) e
+  some_source h = pick (has_kind P.nodes is_asg i) refl
+    where
+      from : (rank : ℕ) → rank_in claims.outputs claims.stamp (a_at P.nodes i) ≡ rank → kind_at P.nodes i ≡ LEAF IN
+          → (e : ℕ) × StoresAt P marks i (target P marks i) e
+      from zero r k = absurd (true≢false (sym h ∙ in_alone k r))
+      from (suc j) r k =
+          let s = in_stored k r in
+          (b_at P.nodes j, subst (λ (v : ℕ). StoresAt P marks i v (b_at P.nodes j)) s.place s)
+
+      pick : (b : Bool) → has_kind P.nodes is_asg i ≡ b → (e : ℕ) × StoresAt P marks i (target P marks i) e
+      pick true e = (b_at P.nodes i, record { storing = h; place = refl; right_side = rw e })
+      pick false e = from _ refl (leaf_in (kind_at P.nodes i) (in_kind h e))
 
   pub source_inside : (e : ℕ) → entry_source ≡ some e → e < expr_count P.exprs
   source_inside e q = pick (has_kind P.nodes is_asg i) refl q

@@ -89,6 +89,7 @@ pub record RightSides (P : Program) (entries : List ℕ) (before : Scratch) (ans
   pub started : targets_apart P (marks_of P entries) ≡ true → Started P entries scratch
   pub more : WorkedMore P.exprs before.work scratch.work
   pub aged : Aged scratch.claims before.claims.stamp
+  pub stamp : scratch.claims.stamp ≡ before.claims.stamp
 
 -- The stores are made, in the values and in what `work` has of them, and the old values are held.
 pub record Stored (values : List ℕ) (before : Work) (listed : List Store) (values' : List ℕ) (work : Work)

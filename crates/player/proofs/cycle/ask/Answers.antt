@@ -91,7 +91,7 @@ returns-in-Err-work_right_sides c =
     let passed = c.in_default.ensures in
     let x = c.requires.from in
     let sides = c.in-Err-work_right_sides.ensures in
-    answer_nine x (active x passed) c.args.scratch.now (pairing x passed) _ sides
+    answer_nine x (active x passed) (pairing x passed).free c.args.scratch.now _ sides
     (c.mark_again.ensures ∙ marks_back x passed)
 
 pub returns : goal.returns
@@ -99,4 +99,5 @@ returns c =
     let passed = c.in_default.ensures in
     let x = c.requires.from in
     let sides = c.in_default-work_right_sides.ensures in
-    answer_none x (active x passed) c.args.scratch.now (pairing x passed) sides (none_left x passed)
+    let paired = pairing x passed in
+    answer_none x (active x passed) paired.free c.args.scratch.now paired.stamp sides (none_left x passed)

@@ -42,7 +42,7 @@ module _ {P : Program} (a : Accepted P) {n : ℕ} (fit : n ≡ node_count P.node
     where
       -- the walk can begin
       walking : Walking P (front n) (front n) before
-      walking = rw blank (root_walking a before known fresh)
+      walking = rw blank (root_walking a before fresh known)
 
       -- what entering node 0 leaves is what the rules' begin leaves
       walked : (values : List ℕ) → Holds values before.memo → {outcome : Outcome} {marks counts : List ℕ} {work : Work}
@@ -50,7 +50,7 @@ module _ {P : Program} (a : Accepted P) {n : ℕ} (fit : n ≡ node_count P.node
           (enter (holds_now P before.memo) (statement_at P.nodes 0) (walk_in (front n) (front n) before)) outcome marks
           counts work
           → root_walk P values ≡ walk_in marks counts work
-      walked values holds e = root_walked a before known fresh values holds (rw blank at e)
+      walked values holds e = root_walked a before fresh values holds (rw blank at e)
 
 -- ---- before node 0 is entered
 pub fill_values-requires-clause-values_len : goal.fill_values-requires-clause-values_len
