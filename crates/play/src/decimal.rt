@@ -28,6 +28,7 @@ pub fn word_of(digits: &[u8]) -> Option<u16>
             return None;
         }
     }
+    // As in the other crates: proved to lose nothing, where `try_from` would give an error that never comes.
     Some(value as u16)
 }
 

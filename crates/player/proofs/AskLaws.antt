@@ -7,6 +7,7 @@ use Rattle.semantics.specs.Completion.{channels_free, targets_apart}
 use Rattle.semantics.specs.Cycle.{are_active}
 use Rattle.program.specs.declared.refusal.Refusal.{Refusal}
 use Rattle.program.specs.declared.refusal.Refusal.TheVariants.{Entries, Channels, Stores as StoresClash}
+use Rattle.program.specs.Answer.{answer_to}
 use Rattle.program.specs.Refusals.{question_number, fault_in}
 use Rattle.program.proofs.AnswerLaws.{some_number, answer_to-ok, answer_to-err}
 use Rattle.player.specs.declared.claims.Claims.{Claims}
@@ -40,7 +41,7 @@ module _ {P : Program} {marks entries : List ℕ} (x : CycleFrom P marks entries
       active_crossable marks entries x.as_many
       ∙ eq-eqb (crossable marks entries) (length entries) (omega arith)
 
-  -- where one of the questions refuses, the marks are as they were
+  -- one of the questions refuses, and the marks are as they were
   pub refused : (refusal : Refusal) {marks' : List ℕ} {before scratch : Scratch}
       → question_number refusal ≡ first_no (first_questions P marks entries) → fault_in refusal ≡ 0
       → marks' ≡ marks → AskAnswer P marks entries before (Err refusal) marks' scratch
@@ -88,15 +89,16 @@ module _ {P : Program} {marks entries : List ℕ} (x : CycleFrom P marks entries
         known = known;
       }
 
+    -- ---- no channel has two
     module _ (all_free : channels_free P (marks_of P entries) ≡ true) where
       free : channels_free P marks ≡ true
       free = ap (channels_free P) are_marked ∙ all_free
 
-      pub answer_nine : (before : Scratch) {claims : Claims} (refusal : Refusal) {scratch : Scratch}
-          → RightSides P entries (record before { claims = claims }) (Err refusal) scratch
-          → {marks' : List ℕ} → marks' ≡ marks → AskAnswer P marks entries before (Err refusal) marks' scratch
-      answer_nine before refusal sides same =
-          let (failed, which) = answer_to-err (targets_apart P (marks_of P entries)) StoresClash sides.answered in
+      pub answer_nine : (refusal : Refusal) {marks' : List ℕ} {before scratch : Scratch}
+          → Err refusal ≡ answer_to (targets_apart P (marks_of P entries)) StoresClash → marks' ≡ marks
+          → AskAnswer P marks entries before (Err refusal) marks' scratch
+      answer_nine refusal answered same =
+          let (failed, which) = answer_to-err (targets_apart P (marks_of P entries)) StoresClash answered in
           let clash = ap (targets_apart P) are_marked ∙ failed in
           rw which (refused StoresClash (sym (rw (active, free, clash))) refl same)
 

@@ -91,7 +91,7 @@ returns-in-Err-work_right_sides c =
     let passed = c.in_default.ensures in
     let x = c.requires.from in
     let sides = c.in-Err-work_right_sides.ensures in
-    answer_nine x (active x passed) (pairing x passed).free c.args.scratch.now _ sides
+    answer_nine x (active x passed) (pairing x passed).free _ sides.answered
     (c.mark_again.ensures ∙ marks_back x passed)
 
 pub returns : goal.returns

@@ -38,19 +38,18 @@ module _ {P : Program} (a : Accepted P) {n : ℕ} (fit : n ≡ node_count P.node
   came_back : (new : List ℕ) → length new ≡ length (front n) → take n (new ++ drop n (replicate 1024 0)) ≡ new
   came_back new kept = take_at new (drop n (replicate 1024 0)) n (kept ∙ sym front_length)
 
-  module _ (before : Work) (known : Known P.exprs before.memo) (fresh : before ≡ record new_work { memo = before.memo })
-    where
-      -- the walk can begin
-      walking : Walking P (front n) (front n) before
-      walking = rw blank (root_walking a before fresh known)
+  module _ (before : Work) (fresh : before ≡ record new_work { memo = before.memo }) where
+    -- the walk can begin
+    walking : Known P.exprs before.memo → Walking P (front n) (front n) before
+    walking known = rw blank (root_walking a before fresh known)
 
-      -- what entering node 0 leaves is what the rules' begin leaves
-      walked : (values : List ℕ) → Holds values before.memo → {outcome : Outcome} {marks counts : List ℕ} {work : Work}
-          → Enters P before
-          (enter (holds_now P before.memo) (statement_at P.nodes 0) (walk_in (front n) (front n) before)) outcome marks
-          counts work
-          → root_walk P values ≡ walk_in marks counts work
-      walked values holds e = root_walked a before fresh values holds (rw blank at e)
+    -- what entering node 0 leaves is what the rules' begin leaves
+    walked : (values : List ℕ) → Holds values before.memo → {outcome : Outcome} {marks counts : List ℕ} {work : Work}
+        → Enters P before
+        (enter (holds_now P before.memo) (statement_at P.nodes 0) (walk_in (front n) (front n) before)) outcome marks
+        counts work
+        → root_walk P values ≡ walk_in marks counts work
+    walked values holds e = root_walked a before fresh values holds (rw blank at e)
 
 -- ---- before node 0 is entered
 pub fill_values-requires-clause-values_len : goal.fill_values-requires-clause-values_len
@@ -71,7 +70,7 @@ slice_bounds-enter_node-end-2 c = front_length (is_accepted c.args.program.now) 
 pub enter_node-requires-clause-walking : goal.enter_node-requires-clause-walking
 enter_node-requires-clause-walking c =
     let filled = c.fill_values.ensures in
-    walking (is_accepted c.args.program.now) c.requires.marks c.fill_values.new.work (filled.known _) filled.kept
+    walking (is_accepted c.args.program.now) c.requires.marks c.fill_values.new.work filled.kept (filled.known _)
 
 pub enter_node-requires-clause-i_bound : goal.enter_node-requires-clause-i_bound
 enter_node-requires-clause-i_bound c = (is_accepted c.args.program.now).sizes.some_node
@@ -81,7 +80,7 @@ pub returns-then-work : goal.returns-then-work
 returns-then-work c =
     let filled = c.fill_values.ensures in
     let right =
-    walked (is_accepted c.args.program.now) c.requires.marks c.fill_values.new.work (filled.known _) filled.kept
+    walked (is_accepted c.args.program.now) c.requires.marks c.fill_values.new.work filled.kept
     c.args.values.now filled.holds c.enter_node.ensures in
     nothing_written c.enter_node.new.work right _ _ c.if-work.true
 
@@ -91,7 +90,7 @@ returns c =
     let accepted = is_accepted c.args.program.now in
     let fit = c.requires.marks in
     let right =
-    walked accepted fit c.fill_values.new.work (filled.known _) filled.kept c.args.values.now filled.holds
+    walked accepted fit c.fill_values.new.work filled.kept c.args.values.now filled.holds
     c.enter_node.ensures in
     let entered = c.enter_node in
     let marks = c.copy_from_slice.ensures.after ∙ came_back accepted fit entered.new.marks entered.auto.marks in
