@@ -23,7 +23,8 @@ use trailer::sizes_of_file;
 use words::put_words;
 use writer::{put_parts, trailer_of};
 
-// The sizes of the paper in a file, for making buffers; 0 for each where the bytes are no file, as C gets them.
+// The sizes of the paper in a file, for making buffers; 0 for each where the bytes are no file. C gets the same: its call cannot
+// fail, nor can this one.
 pub fn sizes(file: &[u8]) -> FileSizes
     ensures { SizesAnswer file.now result.nodes result.exprs result.vars result.chans }
 {

@@ -28,7 +28,7 @@ pub fn word_of(digits: &[u8]) -> Option<u16>
             return None;
         }
     }
-    // As in the other crates: proved to lose nothing, where `try_from` would give an error that never comes.
+    // No From makes a u16 of a u32. The contract says that nothing is lost.
     Some(value as u16)
 }
 

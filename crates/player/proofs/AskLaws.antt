@@ -89,7 +89,7 @@ module _ {P : Program} {marks entries : List ℕ} (x : CycleFrom P marks entries
         known = known;
       }
 
-    -- ---- no channel has two
+    -- ---- no channel has two IN or two OUT
     module _ (all_free : channels_free P (marks_of P entries) ≡ true) where
       free : channels_free P marks ≡ true
       free = ap (channels_free P) are_marked ∙ all_free

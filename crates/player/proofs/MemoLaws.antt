@@ -40,7 +40,7 @@ same_conditions P values memo holds =
 
 -- ---- an expression worked
 
--- a moment is kept, and kept again
+-- two steps that each keep the values of the variables and the moment keep them together
 pub same_trans : {first second third : Memo} → SameMoment first second → SameMoment second third
     → SameMoment first third
 same_trans f g = record { variables = g.variables ∙ f.variables; present = g.present ∙ f.present }
