@@ -17,7 +17,7 @@ use Rattle.player.specs.Entries.{crossable, set_all, uncrossed, CrossedOut}
 use Rattle.player.specs.Memo.{Known}
 use Rattle.player.specs.Claims.{Aged}
 use Rattle.player.specs.Channels.{marks_of, CycleOf, Pairing}
-use Rattle.player.specs.Stores.{Storing, RightSides}
+use Rattle.player.specs.Stores.{Storing, Started, WorkedMore}
 use Rattle.player.specs.Cycle.{CycleFrom, first_questions, AskAnswer}
 use Rattle.player.proofs.EntryLaws.{active_crossable, crossable_most, all-crossed, all-marked, marked_again}
 
@@ -102,12 +102,14 @@ module _ {P : Program} {marks entries : List ℕ} (x : CycleFrom P marks entries
           let clash = ap (targets_apart P) are_marked ∙ failed in
           rw which (refused StoresClash (sym (rw (active, free, clash))) refl same)
 
-      pub answer_none : (before : Scratch) {claims : Claims} → claims.stamp ≡ before.claims.stamp → {scratch : Scratch}
-          → RightSides P entries (record before { claims = claims }) (Ok tt) scratch
+      -- all three are answered yes; it takes what RightSides says of that, but not its stamp
+      pub answer_none : {before scratch : Scratch} → Ok tt ≡ answer_to (targets_apart P (marks_of P entries)) StoresClash
+          → (targets_apart P (marks_of P entries) ≡ true → Started P entries scratch)
+          → WorkedMore P.exprs before.work scratch.work → Aged scratch.claims before.claims.stamp
           → {marks' : List ℕ} → marks' ≡ replicate (length marks) 0
           → AskAnswer P marks entries before (Ok tt) marks' scratch
-      answer_none before stamp {scratch} sides clear =
-          let yes = answer_to-ok (targets_apart P (marks_of P entries)) StoresClash sides.answered in
+      answer_none answered started more aged clear =
+          let yes = answer_to-ok (targets_apart P (marks_of P entries)) StoresClash answered in
           let apart = ap (targets_apart P) are_marked ∙ yes in
           record {
             asked = sym (rw (active, free, apart));
@@ -116,8 +118,8 @@ module _ {P : Program} {marks entries : List ℕ} (x : CycleFrom P marks entries
             yes = λ z. record {
               are_marked = are_marked;
               cleared = clear;
-              started = sides.started yes;
-              more = sides.more;
-              aged = subst (Aged scratch.claims) stamp sides.aged;
+              started = started yes;
+              more = more;
+              aged = aged;
             };
           }

@@ -100,4 +100,5 @@ returns c =
     let x = c.requires.from in
     let sides = c.in_default-work_right_sides.ensures in
     let paired = pairing x passed in
-    answer_none x (active x passed) paired.free c.args.scratch.now paired.stamp sides (none_left x passed)
+    let aged = rw paired.stamp at sides.aged in
+    answer_none x (active x passed) paired.free sides.answered sides.started sides.more aged (none_left x passed)
